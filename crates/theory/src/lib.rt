@@ -1,0 +1,11 @@
+// The theory of convex piecewise-linear flows and tensions: plain types, definitions and laws.
+// The definitions stand in specs/, a module a notion; each law is the contract of a function here.
+#![tactic(auto)]
+
+mod colour;
+mod ext;
+mod network;
+
+pub use colour::Colour;
+pub use ext::Ext;
+pub use network::{Arc, ArcId, NodeId, Step};
