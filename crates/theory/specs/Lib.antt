@@ -11,3 +11,19 @@ pub mod Views
 -- Laws of curves:
 pub mod CurveLaws
 pub mod ViewLaws
+-- Networks:
+pub mod Network
+pub mod Conserved
+pub mod Feasible
+pub mod Totals
+pub mod Best
+pub mod Cut
+pub mod Circuit
+pub mod Painting
+pub mod Grounded
+pub mod Certificate
+pub mod ReadingBound
+pub mod Tucker
+-- Laws of networks and certificates:
+pub mod NetworkLaws
+pub mod CertificateLaws
