@@ -8,6 +8,7 @@ pub mod Span
 pub mod ConjugateCost
 pub mod OnCurve
 pub mod Views
+pub mod Readings
 -- Laws of curves:
 pub mod CurveLaws
 pub mod ViewLaws
