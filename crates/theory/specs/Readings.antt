@@ -20,8 +20,8 @@ IsOver (At b) z = z ≤ℤ b
 IsOver PlusInf z = Unit {0}
 
 pub record AreBoth (e low high : Ext) : Type 0 where
-  pub low : low ≡ e
-  pub high : high ≡ e
+  pub one : low ≡ e
+  pub other : high ≡ e
 
 -- low and high are the slopes at the flow x: of the piece on its left and of the piece on its right
 pub record IsSlopes (items : List Ext) (x : ℤ) (low high : Ext) : Type 0 where
