@@ -1,0 +1,2 @@
+-- Arithmetic of whole numbers:
+pub mod Rings
