@@ -2,3 +2,5 @@
 pub mod Rings
 -- Curve lists:
 pub mod Shape
+pub mod Places
+pub mod Bounds
