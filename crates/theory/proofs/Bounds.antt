@@ -1,7 +1,7 @@
 -- How large the numbers of a curve are: bounds of sums and products, of a piece's rise, of costs, of a list's length.
 use Rattle.std.proofs.Common.{◌≡◌, ℕ, zero, suc, ◌+◌, ◌*◌, ◌-◌, ◌^◌, ◌/◌, ◌<◌, ◌≤◌, List, [], ◌∷◌, length, get_or, refl, sym, ap, subst, inl, inr, add-one, arith, FitsSigned}
 use Rattle.std.specs.Prelude.{ℤ, pos, negsuc, neg_ℤ, ◌+ℤ◌, ◌-ℤ◌, ◌*ℤ◌, ◌≤ℤ◌, ◌<ℤ◌}
-use Rattle.std.specs.Prelude.{unsigned_abs}
+use Rattle.std.specs.Prelude.{unsigned_abs, Bool, true, false, if◌then◌else◌}
 use Rattle.std.specs.Int.{w64, w128}
 use Rattle.std.proofs.lemmas.List.{get_or_past}
 use Rattle.std.proofs.lemmas.Bool.{cases_lt}
@@ -9,10 +9,13 @@ use Rattle.std.proofs.lemmas.Int.{ints, clamps, unsigned_abs-mul, fits_signed_fr
 use Rattle.std.proofs.Math.Nat.{mul-le-mul_left}
 use Rattle.theory.specs.declared.ext.Ext.{Ext}
 use Rattle.theory.specs.declared.ext.Ext.TheVariants.{MinusInf, At, PlusInf}
-use Rattle.theory.specs.Sums.{sum_below}
-use Rattle.theory.specs.Ends.{whole, IsFinite, IsBelow}
-use Rattle.theory.specs.CurveList.{IsCurveList, Listing, Piece, item, first, last}
+use Rattle.theory.specs.Sums.{sum_below, greatest_over, Each}
+use Rattle.theory.specs.Ends.{whole, is_finite, IsFinite, IsBelow}
+use Rattle.theory.specs.CurveList.{IsCurveList, Listing, Piece, item, first, last, before_last}
 use Rattle.theory.specs.Domain.{raised, lowered, clip, rest_point}
+use Rattle.theory.specs.Span.{span_low, span_high, rest_tension}
+use Rattle.theory.specs.ConjugateCost.{with_finite, finite_points, or_one, listed_points}
+use Rattle.theory.specs.Views.{conjugate_of}
 use Rattle.theory.specs.Cost.{rise, cost}
 use Rattle.theory.specs.Limits.{AreWithin, number_most, base_most}
 use Rattle.theory.specs.PieceAt.{piece_at}
@@ -177,3 +180,77 @@ priced_within items base to k list within low inside fits =
     let from = within_more number_most (2 * flow_most) (rest_point items) (omega arith) (rest_point-within number_most items list within) in
     within_more (2 * base_most + k * (number_most * (2 * flow_most + 2 * flow_most))) (10 ^ 28) (cost_up_to items base (rest_point items) to k) (omega arith)
     (cost_up_to-within (2 * base_most) number_most (2 * flow_most) items base (rest_point items) to k (omega arith) within low from inside)
+
+-- ---- the base of the conjugate
+
+greatest_over-within : (n : ℕ) (f : ℤ → ℤ) (xs : List ℤ) → Each (λ x. IsWithin n (f x)) xs → IsWithin n (greatest_over f xs)
+greatest_over-within n f [] each = (omega (arith, ints), omega (arith, ints))
+greatest_over-within n f (x ∷ []) each = each.0
+greatest_over-within n f (x ∷ y ∷ ys) each =
+    let more = greatest_over-within n f (y ∷ ys) each.1 in
+    let a = each.0.0 in
+    let b = each.0.1 in
+    let c = more.0 in
+    let d = more.1 in
+    (omega (arith, ints, clamps), omega (arith, ints, clamps))
+
+Each-within : (n : ℕ) (P : ℤ → Type 0) (xs : List ℤ) → ((x : ℤ) → IsWithin n x → P x) → Each (IsWithin n) xs → Each P xs
+Each-within n P [] f each = tt
+Each-within n P (x ∷ xs) f each = (f x each.0, Each-within n P xs f each.1)
+
+with_finite-within : (n : ℕ) (e : Ext) (points : List ℤ) → IsWithin n (whole e) → Each (IsWithin n) points → Each (IsWithin n) (with_finite e points)
+with_finite-within n MinusInf points here each = each
+with_finite-within n (At a) points here each = (here, each)
+with_finite-within n PlusInf points here each = each
+
+AreWithin-later : (n : ℕ) (p s : Ext) (items : List Ext) → AreWithin n (p ∷ s ∷ items) → AreWithin n items
+AreWithin-later n p s items within k h = within (suc (suc k)) (omega arith)
+
+finite_points-within : (n : ℕ) (items : List Ext) → AreWithin n items → Each (IsWithin n) (finite_points items)
+finite_points-within n [] within = tt
+finite_points-within n (p ∷ []) within = with_finite-within n p [] (within 0 (omega arith)) tt
+finite_points-within n (p ∷ s ∷ rest) within =
+    with_finite-within n p (finite_points rest) (within 0 (omega arith)) (finite_points-within n rest (AreWithin-later n p s rest within))
+
+or_one-within : (n : ℕ) (points : List ℤ) (x : ℤ) → IsWithin n x → Each (IsWithin n) points → Each (IsWithin n) (or_one points x)
+or_one-within n [] x here each = (here, tt)
+or_one-within n (a ∷ points) x here each = each
+
+infinite_or_within : (n : ℕ) (b : Bool) (e f : Ext) → IsWithin n (whole e) → IsWithin n (whole f) → IsWithin n (whole (if b then e else f))
+infinite_or_within n true e f h k = h
+infinite_or_within n false e f h k = k
+
+before_last-within : (n : ℕ) (items : List Ext) → AreWithin n items → IsWithin n (whole (before_last items))
+before_last-within n [] within = (omega (arith, ints), omega (arith, ints))
+before_last-within n (p ∷ []) within = (omega (arith, ints), omega (arith, ints))
+before_last-within n (s ∷ p ∷ []) within = within 0 (omega arith)
+before_last-within n (p ∷ s ∷ r ∷ rest) within = before_last-within n (s ∷ r ∷ rest) (λ k h. within (suc k) (omega arith))
+
+pub rest_tension-within : (n : ℕ) (items : List Ext) → AreWithin n items → IsWithin n (rest_tension items)
+rest_tension-within n items within =
+    let none : IsWithin n (pos 0) = (omega (arith, ints), omega (arith, ints)) in
+    clip_within n (span_low items) (span_high items) (pos 0)
+    (infinite_or_within n (is_finite (first items)) MinusInf (item items 1) none (item_within n items within 1))
+    (infinite_or_within n (is_finite (last items)) PlusInf (before_last items) none (before_last-within n items within))
+    none
+
+conjugate_value_within : (items : List Ext) (base b : ℤ) → IsCurveList items → AreWithin number_most items → length items ≤ 4003 → IsWithin base_most base → IsWithin number_most b
+    → IsWithin (2 * base_most) (rest_tension items *ℤ b -ℤ cost 1 (record { items = items; base = base }) (pos 1 *ℤ b))
+conjugate_value_within items base b list within short low inside =
+    let one : pos 1 *ℤ b ≡ b = omega (arith, ints) in
+    let priced = cost-within base_most number_most number_most items base b list (omega arith) within low inside in
+    let product = within_product number_most number_most (rest_tension items) b (rest_tension-within number_most items within) inside in
+    let all = within_difference (number_most * number_most) (base_most + length items / 2 * (number_most * (number_most + number_most))) (rest_tension items *ℤ b) (cost 1 (record { items = items; base = base }) b) product priced in
+    rw one
+    (within_more (number_most * number_most + (base_most + length items / 2 * (number_most * (number_most + number_most)))) (2 * base_most)
+        (rest_tension items *ℤ b -ℤ cost 1 (record { items = items; base = base }) b) (omega arith) all)
+
+-- It is a flow times a tension less a cost, each near 0 but for the base.
+pub conjugate_base-within : (items : List Ext) (base : ℤ) → IsCurveList items → AreWithin number_most items → length items ≤ 4003 → IsWithin base_most base
+    → IsWithin (2 * base_most) (conjugate_of (record { items = items; base = base })).base
+conjugate_base-within items base list within short low =
+    let w = rest_tension items in
+    let value : (b : ℤ) → IsWithin number_most b → IsWithin (2 * base_most) (w *ℤ b -ℤ cost 1 (record { items = items; base = base }) (pos 1 *ℤ b)) = (λ b inside. conjugate_value_within items base b list within short low inside) in
+    greatest_over-within (2 * base_most) (λ b. w *ℤ b -ℤ cost 1 (record { items = items; base = base }) (pos 1 *ℤ b)) (listed_points items)
+    (Each-within number_most _ (listed_points items) value
+        (or_one-within number_most (finite_points items) (rest_point items) (rest_point-within number_most items list within) (finite_points-within number_most items within)))
