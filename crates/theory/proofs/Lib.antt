@@ -1,4 +1,11 @@
 -- Arithmetic of whole numbers:
 pub mod Rings
+pub mod Sums
 -- Curve lists:
 pub mod Shape
+pub mod Clip
+-- Laws of curves:
+pub mod Scaling
+pub mod Pairs
+pub mod Fenchel
+pub mod Equality
