@@ -1,2 +1,6 @@
--- Proofs of the theory's laws, a file a subject. Curve lists:
+-- Curve lists:
+pub mod Ends
 pub mod Shape
+-- Derived curves:
+pub mod ReversedList
+pub mod ZeroCost
