@@ -1,6 +1,9 @@
+-- Arithmetic of whole numbers:
+pub mod Rings
 -- Curve lists:
-pub mod Ends
 pub mod Shape
 -- Derived curves:
+pub mod Ends
 pub mod ReversedList
 pub mod ZeroCost
+pub mod ConjugateList
