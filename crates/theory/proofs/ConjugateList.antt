@@ -5,7 +5,7 @@
 --     .. s m t r ..      the conjugate: the piece from s to t has the slope m
 -- What bounds the tension at a point of the list (the slopes on its two sides) bounds the flow on a piece of the
 -- conjugate, and the other way round; a missing piece at an infinite end of one is the domain's bound of the other.
-use Rattle.std.proofs.Common.{◌≡◌, ℕ, ℤ, pos, ◌<ℤ◌, ◌≤ℤ◌, ◌*ℤ◌, true, false, if◌then◌else◌, List, ◌∷◌, refl, sym, ap, arith}
+use Rattle.std.proofs.Common.{◌≡◌, ℕ, ℤ, pos, ◌<ℤ◌, ◌≤ℤ◌, ◌*ℤ◌, true, false, if◌then◌else◌, List, ◌∷◌, refl, ap, arith}
 use Rattle.std.proofs.lemmas.Int.{ints, by_lt_z}
 use Rattle.theory.specs.declared.ext.Ext.{Ext}
 use Rattle.theory.specs.declared.ext.Ext.TheVariants.{MinusInf, At, PlusInf}
@@ -15,15 +15,9 @@ use Rattle.theory.specs.CurveList.{IsCurveList, pieces, last, before_last}
 use Rattle.theory.specs.OnCurve.{FitsPiece, IsOnCurve}
 use Rattle.theory.specs.Views.{turned_back, conjugate_items}
 use Rattle.theory.specs.ViewLaws.{IsConjugate, ConjugateLaw, ConjugatePairLaw}
-use Rattle.theory.proofs.Shape.{Rest, ends, goes_on, Shape, single, long, shape_by_place, place_of_shape}
+use Rattle.theory.proofs.Shape.{Rest, ends, goes_on, Shape, single, long, shape_by_place, place_of_shape, less_of, less_in}
 
 -- ---- it is a curve list
-
-less_in : (a b : ℤ) → a <ℤ b → IsBelow (At a) (At b)
-less_in a b h = sym (omega (arith, ints))
-
-less_of : (a b : ℤ) → IsBelow (At a) (At b) → a <ℤ b
-less_of a b h = omega (arith, ints)
 
 rest_turned : {s : ℤ} {m : Ext} {rest : List Ext} (a : ℤ) → IsBelow (At a) m → Rest s m rest → Rest a (At s) (turned_back (m ∷ rest))
 rest_turned {m = MinusInf} a below ends = let h : false ≡ true = below in cc

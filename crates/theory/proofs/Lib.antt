@@ -7,3 +7,4 @@ pub mod Ends
 pub mod ReversedList
 pub mod ZeroCost
 pub mod ConjugateList
+pub mod ReversedCost
