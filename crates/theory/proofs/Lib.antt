@@ -2,6 +2,7 @@
 pub mod Rings
 pub mod Sums
 -- Curve lists:
+pub mod Ends
 pub mod Shape
 pub mod Clip
 -- Laws of curves:
@@ -9,3 +10,8 @@ pub mod Scaling
 pub mod Pairs
 pub mod Fenchel
 pub mod Equality
+-- Derived curves:
+pub mod ReversedList
+pub mod ZeroCost
+pub mod ConjugateList
+pub mod ReversedCost

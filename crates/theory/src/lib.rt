@@ -6,6 +6,7 @@ mod colour;
 pub mod curve_laws;
 mod ext;
 mod network;
+pub mod view_laws;
 
 pub use colour::Colour;
 pub use ext::Ext;
