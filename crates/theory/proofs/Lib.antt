@@ -10,6 +10,7 @@ pub mod Scaling
 pub mod Pairs
 pub mod Fenchel
 pub mod Equality
+pub mod Whole
 -- Derived curves:
 pub mod ReversedList
 pub mod ZeroCost
