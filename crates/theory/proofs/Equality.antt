@@ -3,13 +3,13 @@
 -- greatest passes flow times tension less the cost. The converse: let b be the listed flow of the tension. The shares of
 -- the pieces between q b and the flow are not negative, and an equation leaves 0 for their sum, so each is 0: a piece
 -- has the tension as its slope, or the two flows stand at one place of it and fit it together.
-use Rattle.std.proofs.Common.{◌≡◌, ℕ, ◌≤◌, true, false, ℤ, pos, ◌+ℤ◌, ◌≤ℤ◌, ◌<ℤ◌, List, [], ◌∷◌, refl, sym, ap, ◌∙◌, arith}
-use Rattle.std.specs.Prelude.{◌-ℤ◌, ◌*ℤ◌, neg_ℤ}
+use Rattle.std.proofs.Common.{◌≡◌, ℕ, ◌≤◌, true, false, ℤ, pos, ◌+ℤ◌, ◌≤ℤ◌, List, [], ◌∷◌, refl, sym, arith}
+use Rattle.std.specs.Prelude.{◌-ℤ◌, ◌*ℤ◌}
 use Rattle.std.proofs.lemmas.Int.{ints, clamps, by_lt_z}
 use Rattle.theory.specs.declared.ext.Ext.{Ext}
 use Rattle.theory.specs.declared.ext.Ext.TheVariants.{MinusInf, At, PlusInf}
-use Rattle.theory.specs.Ends.{IsBelow, IsAtLeast, IsAtMost, IsBetween, IsPast, IsBefore}
-use Rattle.theory.specs.CurveList.{IsCurveList, Listing, Piece, pieces, first, last}
+use Rattle.theory.specs.Ends.{IsBelow, IsAtLeast, IsAtMost, IsBetween}
+use Rattle.theory.specs.CurveList.{IsCurveList, Listing, Piece, pieces, last}
 use Rattle.theory.specs.Domain.{InDomain, clip, rest_point}
 use Rattle.theory.specs.Span.{InSpan, span_low}
 use Rattle.theory.specs.Sums.{sum_over, greatest_over, Each}
@@ -61,9 +61,10 @@ points_between : (q : ℕ) (l : Ext) {s : ℤ} {m : Ext} {rest : List Ext} → I
 points_between q l below (ends {m = MinusInf}) = tt
 points_between q l below (ends {m = At b}) = (record { least = least_at q l b below; most = omega (arith, ints) }, tt)
 points_between q l below (ends {m = PlusInf}) = tt
-points_between q l below (goes_on {b = b} {r = r} rises next more) =
-    (record { least = least_at q l b below; most = most_last q (pos q *ℤ b) more (most_after q b r (pos q *ℤ b) next (omega (arith, ints))) },
-    points_between q l (below_trans l (At b) r below next) more)
+points_between q l below (goes_on {b = b} {r = r} rises next more) = (
+  record { least = least_at q l b below; most = most_last q (pos q *ℤ b) more (most_after q b r (pos q *ℤ b) next (omega (arith, ints))) },
+  points_between q l (below_trans l (At b) r below next) more,
+)
 
 each_or_one : (P : ℤ → Type 0) (points : List ℤ) (x : ℤ) → Each P points → P x → Each P (or_one points x)
 each_or_one P [] x each one = (one, tt)
@@ -102,12 +103,12 @@ module _ (q : ℕ) (c : Listing) (x w : ℤ) where
   conjugate_most shape pair =
       let bound = w *ℤ x -ℤ pos q *ℤ cost q c x in
       let each =
-          Each-map
-            (λ b. InDomain q c.items (pos q *ℤ b))
-            (λ b. (pos q *ℤ value b) ≤ℤ bound)
-            (listed_points c.items)
-            (λ b within. spread_value (pos q) w b (cost q c (pos q *ℤ b)) (cost q c x) x (supports q c x w (pos q *ℤ b) shape pair within))
-            (listed_in_domain q shape) in
+      Each-map
+      (λ b. InDomain q c.items (pos q *ℤ b))
+      (λ b. (pos q *ℤ value b) ≤ℤ bound)
+      (listed_points c.items)
+      (λ b within. spread_value (pos q) w b (cost q c (pos q *ℤ b)) (cost q c x) x (supports q c x w (pos q *ℤ b) shape pair within))
+      (listed_in_domain q shape) in
       let most = greatest_or_one (λ b. pos q *ℤ value b) bound (rest_point c.items) (finite_points c.items) each in
       rw (greatest_over-scale q (λ b. pos q *ℤ value b) value (listed_points c.items) (λ b. refl)) at most
 
@@ -139,12 +140,12 @@ fits_by_share q y w x k positive below fits none =
     let place_y = clip q k.left k.right y in
     let place_x = clip q k.left k.right x in
     let same : ¬ (pos q *ℤ k.slope -ℤ w ≡ pos 0) → place_x ≡ place_y =
-        λ apart. let e = mul_zero_right (pos q *ℤ k.slope -ℤ w) (place_x -ℤ place_y) none apart in omega (arith, ints) in
+    λ apart. let e = mul_zero_right (pos q *ℤ k.slope -ℤ w) (place_x -ℤ place_y) none apart in omega (arith, ints) in
     record {
       begins_below = λ past.
-        by_lt_z w (pos q *ℤ k.slope) (λ steep. fits.begins_below (clip_past_same q k.left k.right x y positive below (same (λ e. omega (arith, ints))) past)) (λ l. l);
+          by_lt_z w (pos q *ℤ k.slope) (λ steep. fits.begins_below (clip_past_same q k.left k.right x y positive below (same (λ e. omega (arith, ints))) past)) (λ l. l);
       ends_above = λ before.
-        by_lt_z (pos q *ℤ k.slope) w (λ flat. fits.ends_above (clip_before_same q k.left k.right x y positive below (same (λ e. omega (arith, ints))) before)) (λ l. l);
+          by_lt_z (pos q *ℤ k.slope) w (λ flat. fits.ends_above (clip_before_same q k.left k.right x y positive below (same (λ e. omega (arith, ints))) before)) (λ l. l);
     }
 
 no_shares : (q x w b f g h sum : ℤ) → sum +ℤ w *ℤ x +ℤ q *ℤ g ≡ w *ℤ (q *ℤ b) +ℤ q *ℤ f → (q *ℤ (w *ℤ b -ℤ g)) ≤ℤ (q *ℤ h) → q *ℤ f +ℤ q *ℤ h ≡ x *ℤ w → sum ≤ℤ pos 0
@@ -166,7 +167,7 @@ on_curve_by_equality q c x w positive shape in_x in_w equal =
     record {
       in_domain = in_x;
       on_pieces =
-        Each-zip
+          Each-zip
           (λ k. IsBelow k.left k.right × FitsPiece q y w k)
           (λ k. share q y w x k ≡ pos 0)
           (FitsPiece q x w)

@@ -7,22 +7,22 @@
 -- (2) Each tension w of the span has a listed point b with (q b, w) on the curve: the point before the first slope
 --     that is not below w, or the last point.
 -- At that point the conjugate cost is at least w b less the cost, and (1) does the rest.
-use Rattle.std.proofs.Common.{◌≡◌, ℕ, ◌≤◌, true, false, ℤ, pos, ◌+ℤ◌, ◌≤ℤ◌, ◌<ℤ◌, List, [], ◌∷◌, refl, sym, ap, ◌∙◌, arith}
+use Rattle.std.proofs.Common.{◌≡◌, ℕ, true, false, ℤ, pos, ◌+ℤ◌, ◌≤ℤ◌, ◌<ℤ◌, List, ◌∷◌, refl, arith}
 use Rattle.std.specs.Prelude.{◌-ℤ◌, ◌*ℤ◌, neg_ℤ}
 use Rattle.std.proofs.lemmas.Int.{ints, clamps, by_lt_z}
 use Rattle.theory.specs.declared.ext.Ext.{Ext}
 use Rattle.theory.specs.declared.ext.Ext.TheVariants.{MinusInf, At, PlusInf}
-use Rattle.theory.specs.Ends.{IsBelow, IsAtLeast, IsAtMost, IsBetween, IsPast, IsBefore}
-use Rattle.theory.specs.CurveList.{IsCurveList, Listing, Piece, pieces, first, last}
+use Rattle.theory.specs.Ends.{IsBelow, IsAtLeast, IsAtMost}
+use Rattle.theory.specs.CurveList.{Listing, Piece, pieces, last}
 use Rattle.theory.specs.Domain.{InDomain, raised, lowered, clip, rest_point}
-use Rattle.theory.specs.Sums.{sum_over, Each}
+use Rattle.theory.specs.Sums.{sum_over}
 use Rattle.theory.specs.Cost.{rise, cost}
 use Rattle.theory.specs.OnCurve.{IsOnCurve, FitsPiece}
 use Rattle.theory.specs.ConjugateCost.{conjugate_cost}
 use Rattle.theory.specs.CurveLaws.{FenchelLaw, PairsRiseLaw}
 use Rattle.theory.proofs.Rings.{rings, scale_mono, mul_agreeing, mul_strict}
 use Rattle.theory.proofs.Sums.{Each-map, sum_over-add, sum_over-scale, sum_positives, greatest_at}
-use Rattle.theory.proofs.Shape.{Rest, ends, goes_on, Shape, single, long, shape_by_place, less_of}
+use Rattle.theory.proofs.Shape.{Rest, ends, goes_on, Shape, single, long, shape_by_place}
 use Rattle.theory.proofs.Pairs.{flow_of}
 use Rattle.theory.proofs.Clip.{clip_before, clip_past}
 

@@ -1,7 +1,7 @@
 -- Whole numbers under `omega`: products of sums, and the order of products.
 -- `ints` reads a whole number z as `up z - down z` and a product as the four products of these parts, but doesn't
 -- multiply a sum out within a product. The lemmas below do, at one sum or product within a product each.
-use Rattle.std.proofs.Common.{◌≡◌, ap, sym, ◌∙◌, ℕ, ◌+◌, ◌*◌, ◌≤◌, ◌<◌, arith}
+use Rattle.std.proofs.Common.{◌≡◌, ap, sym, ◌∙◌, ℕ, ◌+◌, ◌*◌, ◌≤◌, arith}
 use Rattle.std.specs.Prelude.{ℤ, pos, negsuc, ◌+ℤ◌, ◌*ℤ◌, neg_ℤ, ◌≤ℤ◌, ◌<ℤ◌}
 use Rattle.std.specs.Int.{int_min, int_max}
 use Rattle.std.proofs.lemmas.Int.{ints, clamps, by_lt_z}
@@ -118,11 +118,11 @@ mul_zero_left a b e apart =
     a
     (λ above. absurd (by_lt_z (pos 0) b (λ up_b. let m = mul_strict a b above up_b in omega (arith, ints)) (λ l. let m = mul_strict a (neg_ℤ b) above (omega (arith, ints)) in omega (arith, rings))))
     (λ not_above.
-      by_lt_z
-      a
-      (pos 0)
-      (λ below. absurd (by_lt_z (pos 0) b (λ up_b. let m = mul_strict (neg_ℤ a) b (omega (arith, ints)) up_b in omega (arith, rings)) (λ l. let m = mul_strict_negatives a b below (omega (arith, ints)) in omega (arith, ints))))
-      (λ not_below. omega (arith, ints)))
+    by_lt_z
+    a
+    (pos 0)
+    (λ below. absurd (by_lt_z (pos 0) b (λ up_b. let m = mul_strict (neg_ℤ a) b (omega (arith, ints)) up_b in omega (arith, rings)) (λ l. let m = mul_strict_negatives a b below (omega (arith, ints)) in omega (arith, ints))))
+    (λ not_below. omega (arith, ints)))
 
 pub mul_zero_right : (a b : ℤ) → a *ℤ b ≡ pos 0 → ¬ (a ≡ pos 0) → b ≡ pos 0
 mul_zero_right a b e apart = mul_zero_left b a (omega (arith, ints)) apart

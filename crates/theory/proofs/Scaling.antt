@@ -1,11 +1,10 @@
 -- Scaling the fraction. Each move into a range scales with the number moved, since the ends are taken q times: so
 -- each piece's rise does, the cost, and each of the values among which the conjugate cost is the greatest.
-use Rattle.std.proofs.Common.{◌≡◌, ℕ, ◌≤◌, ℤ, pos, ◌+ℤ◌, sym, ap, ◌∙◌, arith}
+use Rattle.std.proofs.Common.{◌≡◌, ℕ, ℤ, pos, sym, ap, ◌∙◌, arith}
 use Rattle.std.specs.Prelude.{◌-ℤ◌, ◌*ℤ◌}
 use Rattle.std.proofs.lemmas.Int.{ints}
 use Rattle.theory.specs.CurveList.{Listing, Piece, pieces}
-use Rattle.theory.specs.Domain.{clip, rest_point}
-use Rattle.theory.specs.Sums.{sum_over}
+use Rattle.theory.specs.Domain.{rest_point}
 use Rattle.theory.specs.Cost.{rise, cost}
 use Rattle.theory.specs.ConjugateCost.{listed_points, conjugate_cost}
 use Rattle.theory.specs.CurveLaws.{ScalingLaw}
