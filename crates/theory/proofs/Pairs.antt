@@ -45,7 +45,8 @@ most_last q x ends most = most
 most_last q x (goes_on {b = b} {r = r} rises next more) most = most_last q x more (most_after q b r x next most)
 
 -- ---- the pieces from a point on, at a flow that is not past it and a tension that is not above the slope before it
-pub later_fits : (q : ℕ) (x w : ℤ) {s : ℤ} {m : Ext} {rest : List Ext} → Rest s m rest → IsAtMost q m x → w ≤ℤ (pos q *ℤ s) → Each (FitsPiece q x w) (pieces (m ∷ rest))
+pub later_fits : (q : ℕ) (x w : ℤ) {s : ℤ} {m : Ext} {rest : List Ext} → Rest s m rest → IsAtMost q m x
+    → w ≤ℤ (pos q *ℤ s) → Each (FitsPiece q x w) (pieces (m ∷ rest))
 later_fits q x w ends most flat = tt
 later_fits q x w (goes_on {s = s} {t = t} {b = b} {r = r} rises next more) most flat =
     let steeper = scale_mono q s t (omega (arith, ints)) in (
@@ -80,7 +81,8 @@ record Turn (q : ℕ) (w : ℤ) (items : List Ext) : Type 0 where
 abbrev pub high_from : Ext → List Ext → Ext
 high_from s points = if is_finite (last points) then PlusInf else before_last (s ∷ points)
 
-turn_rest : (q : ℕ) (w : ℤ) {s : ℤ} {m : Ext} {rest : List Ext} → Rest s m rest → (pos q *ℤ s) <ℤ w → IsAtMost q (high_from (At s) (m ∷ rest)) w → Turn q w (m ∷ rest)
+turn_rest : (q : ℕ) (w : ℤ) {s : ℤ} {m : Ext} {rest : List Ext} → Rest s m rest → (pos q *ℤ s) <ℤ w
+    → IsAtMost q (high_from (At s) (m ∷ rest)) w → Turn q w (m ∷ rest)
 turn_rest q w (ends {m = MinusInf}) steep high = absurd (omega (arith, ints))
 turn_rest q w (ends {m = At b}) steep high =
     record { point = b; listed = here; not_before = λ before. omega (arith, ints); most = omega (arith, ints); fits = tt }
@@ -114,7 +116,8 @@ pub record FlowOf (q : ℕ) (items : List Ext) (w : ℤ) : Type 0 where
   pub listed : IsAmong point (listed_points items)
   pub on_curve : IsOnCurve q items (pos q *ℤ point) w
 
-after_turn : (q : ℕ) (w : ℤ) {l m : Ext} {s : ℤ} {rest : List Ext} → IsBelow l m → (pos q *ℤ s) <ℤ w → Turn q w (m ∷ rest) → FlowOf q (l ∷ At s ∷ m ∷ rest) w
+after_turn : (q : ℕ) (w : ℤ) {l m : Ext} {s : ℤ} {rest : List Ext} → IsBelow l m → (pos q *ℤ s) <ℤ w
+    → Turn q w (m ∷ rest) → FlowOf q (l ∷ At s ∷ m ∷ rest) w
 after_turn q w {l = l} {m = m} {rest = rest} below steep turn =
     record {
       point = turn.point;
@@ -126,7 +129,8 @@ after_turn q w {l = l} {m = m} {rest = rest} below steep turn =
           };
     }
 
-at_first : (q : ℕ) (w : ℤ) (l m : Ext) (s : ℤ) (rest : List Ext) → IsBelow l m → Rest s m rest → w ≤ℤ (pos q *ℤ s) → InSpan q (l ∷ At s ∷ m ∷ rest) w → FlowOf q (l ∷ At s ∷ m ∷ rest) w
+at_first : (q : ℕ) (w : ℤ) (l m : Ext) (s : ℤ) (rest : List Ext) → IsBelow l m → Rest s m rest → w ≤ℤ (pos q *ℤ s)
+    → InSpan q (l ∷ At s ∷ m ∷ rest) w → FlowOf q (l ∷ At s ∷ m ∷ rest) w
 at_first q w (At a) m s rest below more flat span =
     let next_most = most_after q a m (pos q *ℤ a) below (omega (arith, ints)) in
     record {
