@@ -1,9 +1,17 @@
 -- Arithmetic of whole numbers:
 pub mod Rings
+pub mod Sums
 -- Curve lists:
-pub mod Shape
--- Derived curves:
 pub mod Ends
+pub mod Shape
+pub mod Clip
+-- Laws of curves:
+pub mod Scaling
+pub mod Pairs
+pub mod Fenchel
+pub mod Equality
+pub mod Whole
+-- Derived curves:
 pub mod ReversedList
 pub mod ZeroCost
 pub mod ConjugateList

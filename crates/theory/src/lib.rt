@@ -3,6 +3,7 @@
 #![tactic(auto)]
 
 mod colour;
+pub mod curve_laws;
 mod ext;
 mod network;
 pub mod view_laws;
