@@ -16,3 +16,5 @@ pub mod ReversedList
 pub mod ZeroCost
 pub mod ConjugateList
 pub mod ReversedCost
+pub mod Rounding
+pub mod Level
