@@ -1,6 +1,6 @@
 -- How large the numbers of a curve are: bounds of sums and products, of a piece's rise, of costs, of a list's length.
-use Rattle.std.proofs.Common.{◌≡◌, ℕ, zero, suc, ◌+◌, ◌*◌, ◌-◌, ◌^◌, ◌/◌, ◌<◌, ◌≤◌, List, [], ◌∷◌, length, get_or, refl, sym, ap, subst, inl, inr, add-one, arith, FitsSigned}
-use Rattle.std.specs.Prelude.{ℤ, pos, negsuc, neg_ℤ, ◌+ℤ◌, ◌-ℤ◌, ◌*ℤ◌, ◌≤ℤ◌, ◌<ℤ◌}
+use Rattle.std.proofs.Common.{◌≡◌, ℕ, zero, suc, ◌+◌, ◌*◌, ◌-◌, ◌^◌, ◌/◌, ◌<◌, ◌≤◌, List, [], ◌∷◌, length, inl, inr, add-one, arith, FitsSigned}
+use Rattle.std.specs.Prelude.{ℤ, pos, negsuc, ◌+ℤ◌, ◌-ℤ◌, ◌*ℤ◌, ◌≤ℤ◌, ◌<ℤ◌}
 use Rattle.std.specs.Prelude.{unsigned_abs, Bool, true, false, if◌then◌else◌}
 use Rattle.std.specs.Int.{w64, w128}
 use Rattle.std.proofs.lemmas.List.{get_or_past}
@@ -11,7 +11,7 @@ use Rattle.theory.specs.declared.ext.Ext.{Ext}
 use Rattle.theory.specs.declared.ext.Ext.TheVariants.{MinusInf, At, PlusInf}
 use Rattle.theory.specs.Sums.{sum_below, greatest_over, Each}
 use Rattle.theory.specs.Ends.{whole, is_finite, IsFinite, IsBelow}
-use Rattle.theory.specs.CurveList.{IsCurveList, Listing, Piece, item, first, last, before_last}
+use Rattle.theory.specs.CurveList.{IsCurveList, Piece, item, first, last, before_last}
 use Rattle.theory.specs.Domain.{raised, lowered, clip, rest_point}
 use Rattle.theory.specs.Span.{span_low, span_high, rest_tension}
 use Rattle.theory.specs.ConjugateCost.{with_finite, finite_points, or_one, listed_points}
@@ -243,7 +243,7 @@ conjugate_value_within items base b list within short low inside =
     let all = within_difference (number_most * number_most) (base_most + length items / 2 * (number_most * (number_most + number_most))) (rest_tension items *ℤ b) (cost 1 (record { items = items; base = base }) b) product priced in
     rw one
     (within_more (number_most * number_most + (base_most + length items / 2 * (number_most * (number_most + number_most)))) (2 * base_most)
-        (rest_tension items *ℤ b -ℤ cost 1 (record { items = items; base = base }) b) (omega arith) all)
+    (rest_tension items *ℤ b -ℤ cost 1 (record { items = items; base = base }) b) (omega arith) all)
 
 -- It is a flow times a tension less a cost, each near 0 but for the base.
 pub conjugate_base-within : (items : List Ext) (base : ℤ) → IsCurveList items → AreWithin number_most items → length items ≤ 4003 → IsWithin base_most base
@@ -253,4 +253,4 @@ conjugate_base-within items base list within short low =
     let value : (b : ℤ) → IsWithin number_most b → IsWithin (2 * base_most) (w *ℤ b -ℤ cost 1 (record { items = items; base = base }) (pos 1 *ℤ b)) = (λ b inside. conjugate_value_within items base b list within short low inside) in
     greatest_over-within (2 * base_most) (λ b. w *ℤ b -ℤ cost 1 (record { items = items; base = base }) (pos 1 *ℤ b)) (listed_points items)
     (Each-within number_most _ (listed_points items) value
-        (or_one-within number_most (finite_points items) (rest_point items) (rest_point-within number_most items list within) (finite_points-within number_most items within)))
+    (or_one-within number_most (finite_points items) (rest_point items) (rest_point-within number_most items list within) (finite_points-within number_most items within)))

@@ -1,8 +1,8 @@
 -- A list read by places: its ends, and its pieces by their numbers.
-use Rattle.std.proofs.Common.{◌≡◌, ℕ, zero, suc, ◌+◌, ◌-◌, ◌*◌, ◌/◌, ◌<◌, ◌≤◌, ◌↔◌, ℤ, pos, ◌+ℤ◌, true, false, List, [], ◌∷◌, length, refl, sym, ap, subst, arith}
+use Rattle.std.proofs.Common.{◌≡◌, ℕ, zero, suc, ◌+◌, ◌*◌, ◌/◌, ◌<◌, ◌≤◌, ℤ, ◌+ℤ◌, true, false, List, [], ◌∷◌, length, refl, sym, ap, subst, arith}
 use Rattle.std.proofs.lemmas.Int.{ints}
 use Rattle.theory.specs.declared.ext.Ext.{Ext}
-use Rattle.theory.specs.declared.ext.Ext.TheVariants.{MinusInf, At, PlusInf}
+use Rattle.theory.specs.declared.ext.Ext.TheVariants.{At}
 use Rattle.theory.specs.Ends.{is_finite, IsBetween}
 use Rattle.theory.specs.Sums.{sum_over, sum_below, Each}
 use Rattle.theory.specs.CurveList.{IsCurveList, Piece, pieces, item, first, last, before_last}

@@ -1,13 +1,10 @@
-use Rattle.std.proofs.Common.{◌≡◌, ℕ, ◌+◌, ◌*◌, ◌^◌, ◌/◌, ◌<◌, ◌≤◌, ◌∙◌, refl, sym, List, length, to_z, of_z, to_z-of_z, FitsSigned, arith, rules}
+use Rattle.std.proofs.Common.{◌≡◌, ◌+◌, ◌^◌, ◌/◌, ◌∙◌, refl, sym, List, length, to_z, of_z, to_z-of_z, FitsSigned, arith, rules}
 use Rattle.std.specs.Prelude.{ℤ, pos, ◌+ℤ◌}
 use Rattle.std.specs.Int.{w64, w128}
 use Rattle.std.proofs.lemmas.Int.{ints}
 use Rattle.theory.specs.declared.ext.Ext.{Ext}
 use Rattle.theory.specs.CurveList.{first, last}
 use Rattle.theory.specs.Domain.{clip, rest_point}
-use Rattle.theory.specs.Cost.{rise}
-use Rattle.theory.specs.PieceAt.{piece_at}
-use Rattle.theory.specs.Certificate.{IsWithin}
 use Rattle.theory.proofs.Bounds.{cost_up_to, cost_up_to-none, cost_up_to-more, cost_up_to-all, priced_within, within_fits128}
 use Rattle.theory.proofs.pricing.cost_at.Goals as goal
 use Rattle.theory.proofs.pricing.cost_at.Goals.{After-rise_of-total, After-loop-k}

@@ -1,4 +1,4 @@
-use Rattle.std.proofs.Common.{length, arith}
+use Rattle.std.proofs.Common.{arith}
 use Rattle.theory.proofs.Places.{last_at}
 use Rattle.theory.proofs.pricing.domain_of.Goals as goal
 

@@ -1,4 +1,4 @@
-use Rattle.std.proofs.Common.{◌≡◌, ◌<◌, ◌/◌, length, true, false, refl, arith, below_more, to_z-of_z}
+use Rattle.std.proofs.Common.{refl, arith, below_more, to_z-of_z}
 use Rattle.std.proofs.lemmas.Bool.{false≢true}
 use Rattle.theory.specs.CurveList.{first, last}
 use Rattle.theory.specs.Ends.{IsBetween}

@@ -1,12 +1,12 @@
-use Rattle.std.proofs.Common.{◌≡◌, ℕ, ◌*◌, ◌^◌, ◌+◌, ◌∙◌, refl, to_z, of_z, to_z-of_z, FitsSigned, arith, rules}
-use Rattle.std.specs.Prelude.{ℤ, ◌-ℤ◌, ◌*ℤ◌}
-use Rattle.std.specs.Int.{w64, w128}
+use Rattle.std.proofs.Common.{◌≡◌, ◌*◌, ◌^◌, refl, to_z, of_z, to_z-of_z, FitsSigned, arith}
+use Rattle.std.specs.Prelude.{◌-ℤ◌, ◌*ℤ◌}
+use Rattle.std.specs.Int.{w128}
 use Rattle.std.proofs.lemmas.Int.{ints}
 use Rattle.theory.specs.Ends.{whole}
 use Rattle.theory.specs.Domain.{clip}
 use Rattle.theory.specs.Limits.{number_most}
 use Rattle.theory.specs.Certificate.{IsWithin}
-use Rattle.theory.proofs.Bounds.{within_difference, within_product, within_fits128}
+use Rattle.theory.proofs.Bounds.{within_product, within_fits128}
 use Rattle.theory.proofs.pricing.rise_of.Goals as goal
 use Rattle.theory.proofs.pricing.rise_of.Goals.{After-from-to}
 

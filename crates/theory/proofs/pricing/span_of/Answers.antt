@@ -1,4 +1,4 @@
-use Rattle.std.proofs.Common.{◌≡◌, ◌+◌, false, length, sym, ◌∙◌, arith, cond}
+use Rattle.std.proofs.Common.{◌≡◌, false, sym, ◌∙◌, arith}
 use Rattle.theory.specs.Ends.{is_finite}
 use Rattle.theory.specs.CurveList.{last}
 use Rattle.theory.proofs.Places.{longer, before_last_at}
