@@ -4,13 +4,16 @@
 mod curve;
 mod fault;
 mod faults;
+mod halving;
 mod limits;
 mod listed;
+mod monotone;
 mod steps;
 
 pub use curve::Curve;
 pub use fault::CurveFault;
 pub use limits::{ARG_MOST, BASE_MOST, FLOW_MOST, ITEMS_MOST, NUMBER_MOST};
 pub use listed::Listed;
+pub use monotone::Monotone;
 pub use steps::Steps;
 pub use theory::Ext;
