@@ -3,6 +3,7 @@
 #![tactic(auto)]
 
 mod colour;
+pub mod examples;
 mod ext;
 mod network;
 
