@@ -1,0 +1,4 @@
+-- Arithmetic of whole numbers:
+pub mod Rings
+-- Curve lists:
+pub mod Shape
