@@ -2,3 +2,5 @@
 pub mod Rings
 -- Curve lists:
 pub mod Shape
+-- Networks:
+pub mod Sums

@@ -1,0 +1,114 @@
+-- Sums below a bound and over a list: sameness, additivity, a common factor, order, exchange, a single hit.
+use Rattle.std.proofs.Common.{◌≡◌, ℕ, zero, suc, ◌+◌, ◌<◌, ◌≤◌, ℤ, pos, ◌+ℤ◌, ◌-ℤ◌, ◌*ℤ◌, neg_ℤ, ◌≤ℤ◌, ◌<ℤ◌, Bool, true, false, ◌==◌, List, [], ◌∷◌, refl, sym, ap, ◌∙◌, ◌⊎◌, inl, inr, ⊎_elim, eq-eqb, arith}
+use Rattle.std.proofs.lemmas.Int.{ints}
+use Rattle.std.proofs.lemmas.Bool.{cases_lt, ne_eqb}
+use Rattle.theory.specs.Sums.{sum_over, sum_below, Each, counted}
+use Rattle.theory.proofs.Rings.{rings, scale_mono}
+
+-- ---- below a bound
+
+pub sum_below-same : (n : ℕ) (f g : ℕ → ℤ) → ((k : ℕ) → k < n → f k ≡ g k) → sum_below n f ≡ sum_below n g
+sum_below-same zero f g h = refl
+sum_below-same (suc n) f g h =
+    let e : sum_below n f ≡ sum_below n g = sum_below-same n f g (λ k l. h k (omega arith)) in
+    let hit : f n ≡ g n = h n (omega arith) in
+    cc
+
+pub sum_below-zero : (n : ℕ) (f : ℕ → ℤ) → ((k : ℕ) → k < n → f k ≡ pos 0) → sum_below n f ≡ pos 0
+sum_below-zero zero f h = refl
+sum_below-zero (suc n) f h =
+    let e : sum_below n f ≡ pos 0 = sum_below-zero n f (λ k l. h k (omega arith)) in
+    let hit : f n ≡ pos 0 = h n (omega arith) in
+    omega (arith, ints)
+
+pub sum_below-add : (n : ℕ) (f g : ℕ → ℤ) → sum_below n (λ k. f k +ℤ g k) ≡ sum_below n f +ℤ sum_below n g
+sum_below-add zero f g = refl
+sum_below-add (suc n) f g =
+    let e : sum_below n (λ k. f k +ℤ g k) ≡ sum_below n f +ℤ sum_below n g = sum_below-add n f g in
+    omega (arith, ints)
+
+pub sum_below-sub : (n : ℕ) (f g : ℕ → ℤ) → sum_below n (λ k. f k -ℤ g k) ≡ sum_below n f -ℤ sum_below n g
+sum_below-sub zero f g = refl
+sum_below-sub (suc n) f g =
+    let e : sum_below n (λ k. f k -ℤ g k) ≡ sum_below n f -ℤ sum_below n g = sum_below-sub n f g in
+    omega (arith, ints)
+
+-- a common factor
+pub sum_below-mul : (n : ℕ) (a : ℤ) (f : ℕ → ℤ) → sum_below n (λ k. a *ℤ f k) ≡ a *ℤ sum_below n f
+sum_below-mul zero a f = omega (arith, ints)
+sum_below-mul (suc n) a f =
+    let e : sum_below n (λ k. a *ℤ f k) ≡ a *ℤ sum_below n f = sum_below-mul n a f in
+    omega (arith, rings)
+
+-- the order of the terms is that of the sums
+pub sum_below-order : (n : ℕ) (f g : ℕ → ℤ) → ((k : ℕ) → k < n → f k ≤ℤ g k) → sum_below n f ≤ℤ sum_below n g
+sum_below-order zero f g h = omega (arith, ints)
+sum_below-order (suc n) f g h =
+    let e : sum_below n f ≤ℤ sum_below n g = sum_below-order n f g (λ k l. h k (omega arith)) in
+    let hit : f n ≤ℤ g n = h n (omega arith) in
+    omega (arith, ints)
+
+-- where no term is above its partner and the sums are equal, so are the terms
+pub sum_below-equal_terms : (n : ℕ) (f g : ℕ → ℤ) → ((k : ℕ) → k < n → f k ≤ℤ g k) → sum_below n g ≤ℤ sum_below n f
+    → (k : ℕ) → k < n → f k ≡ g k
+sum_below-equal_terms zero f g h total k l = absurd (omega arith)
+sum_below-equal_terms (suc n) f g h total k l =
+    let before : (i : ℕ) → i < n → f i ≤ℤ g i = λ i j. h i (omega arith) in
+    let hit : f n ≤ℤ g n = h n (omega arith) in
+    let e : sum_below n f ≤ℤ sum_below n g = sum_below-order n f g before in
+    ⊎_elim (λ (below : k < n). sum_below-equal_terms n f g before (omega (arith, ints)) k below)
+    (λ (above : n ≤ k). let same : n ≡ k = omega arith in let here : f n ≡ g n = omega (arith, ints) in rw same at here)
+    (cases_lt k n)
+
+-- the two orders of a double sum
+pub sum_below-swap : (m n : ℕ) (f : ℕ → ℕ → ℤ) → sum_below m (λ i. sum_below n (λ j. f i j)) ≡ sum_below n (λ j. sum_below m (λ i. f i j))
+sum_below-swap zero n f = sym (sum_below-zero n (λ j. pos 0) (λ k l. refl))
+sum_below-swap (suc m) n f =
+    let e : sum_below m (λ i. sum_below n (λ j. f i j)) ≡ sum_below n (λ j. sum_below m (λ i. f i j)) = sum_below-swap m n f in
+    let split : sum_below n (λ j. sum_below m (λ i. f i j) +ℤ f m j) ≡ sum_below n (λ j. sum_below m (λ i. f i j)) +ℤ sum_below n (λ j. f m j) =
+        sum_below-add n (λ j. sum_below m (λ i. f i j)) (λ j. f m j) in
+    omega (arith, ints)
+
+counted-miss : (i k : ℕ) (x : ℤ) → (i ≡ k → ⊥) → counted (i == k) x ≡ pos 0
+counted-miss i k x ne = rw (ne_eqb i k ne)
+
+counted-hit : (i k : ℕ) (x : ℤ) → i ≡ k → counted (i == k) x ≡ x
+counted-hit i k x e = rw (eq-eqb i k e)
+
+-- of a sum with one hit that term is left
+pub sum_below-pick : (n i : ℕ) (f : ℕ → ℤ) → i < n → sum_below n (λ k. counted (i == k) (f k)) ≡ f i
+sum_below-pick zero i f l = absurd (omega arith)
+sum_below-pick (suc n) i f l =
+    ⊎_elim
+    (λ (below : i < n).
+        let e : sum_below n (λ k. counted (i == k) (f k)) ≡ f i = sum_below-pick n i f below in
+        let last : counted (i == n) (f n) ≡ pos 0 = counted-miss i n (f n) (λ same. omega arith) in
+        omega (arith, ints))
+    (λ (above : n ≤ i).
+        let same : i ≡ n = omega arith in
+        let e : sum_below n (λ k. counted (i == k) (f k)) ≡ pos 0 =
+            sum_below-zero n (λ k. counted (i == k) (f k)) (λ k below. counted-miss i k (f k) (λ hit. omega arith)) in
+        let last : counted (i == n) (f n) ≡ f n = counted-hit i n (f n) same in
+        let there : f i ≡ f n = ap f same in
+        omega (arith, ints))
+    (cases_lt i n)
+
+-- ---- over a list
+
+pub sum_over-add : {A : Type 0} (f g : A → ℤ) (xs : List A) → sum_over (λ x. f x +ℤ g x) xs ≡ sum_over f xs +ℤ sum_over g xs
+sum_over-add f g [] = refl
+sum_over-add f g (x ∷ xs) =
+    let e : sum_over (λ y. f y +ℤ g y) xs ≡ sum_over f xs +ℤ sum_over g xs = sum_over-add f g xs in
+    omega (arith, ints)
+
+pub sum_over-mul : {A : Type 0} (a : ℤ) (f : A → ℤ) (xs : List A) → sum_over (λ x. a *ℤ f x) xs ≡ a *ℤ sum_over f xs
+sum_over-mul a f [] = omega (arith, ints)
+sum_over-mul a f (x ∷ xs) =
+    let e : sum_over (λ y. a *ℤ f y) xs ≡ a *ℤ sum_over f xs = sum_over-mul a f xs in
+    omega (arith, rings)
+
+pub sum_over-order : {A : Type 0} (f g : A → ℤ) (xs : List A) → Each (λ x. f x ≤ℤ g x) xs → sum_over f xs ≤ℤ sum_over g xs
+sum_over-order f g [] h = omega (arith, ints)
+sum_over-order f g (x ∷ xs) h =
+    let e : sum_over f xs ≤ℤ sum_over g xs = sum_over-order f g xs h.1 in
+    omega (arith, ints, h.0)
