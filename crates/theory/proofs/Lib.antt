@@ -4,3 +4,4 @@ pub mod Rings
 pub mod Shape
 -- Networks:
 pub mod Sums
+pub mod SumLaw

@@ -5,6 +5,7 @@
 mod colour;
 mod ext;
 mod network;
+pub mod network_laws;
 
 pub use colour::Colour;
 pub use ext::Ext;
