@@ -5,3 +5,5 @@ pub mod Shape
 -- Networks:
 pub mod Sums
 pub mod SumLaw
+pub mod Duality
+pub mod Refusals

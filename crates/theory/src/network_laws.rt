@@ -1,9 +1,21 @@
 // The laws of networks. Each function does nothing: its contract is the law.
 
-ghost use Rattle.theory.specs.NetworkLaws.{SumLaw};
+ghost use Rattle.theory.specs.NetworkLaws.{SumLaw, NegativeCutLaw, NegativeCircuitLaw};
 
 /// A conserved flow is orthogonal to every tension.
 pub fn sum_law()
     ensures { SumLaw }
+{
+}
+
+/// A negative cut refuses every flow.
+pub fn negative_cut_law()
+    ensures { NegativeCutLaw }
+{
+}
+
+/// A negative circuit refuses every potential.
+pub fn negative_circuit_law()
+    ensures { NegativeCircuitLaw }
 {
 }
