@@ -7,3 +7,5 @@ pub mod Sums
 pub mod SumLaw
 pub mod Duality
 pub mod Refusals
+pub mod Certificates
+pub mod GroundedLaw

@@ -113,3 +113,8 @@ cut_law-conserved net set x good conserved =
     let none = sum_below-zero net.nodes (λ i. counted (set i) (divergence net x i))
             (λ i l. let e = divergence-conserved net x conserved i l in counted-zero (set i) (divergence net x i) e) in
     omega (arith, ints)
+
+-- the divergences of all nodes add up to 0, so a flow that is conserved at all nodes but one is conserved there too
+pub divergence-total : (net : Network) (x : ℕ → ℤ) → IsNetwork net → over_nodes net (divergence net x) ≡ pos 0
+divergence-total net x good =
+    cut_law net (λ i. true) x good ∙ sum_below-zero (length net.arcs) (crossing net (λ i. true) x) (λ j l. refl)

@@ -1,5 +1,5 @@
 -- Sums below a bound and over a list: sameness, additivity, a common factor, order, exchange, a single hit.
-use Rattle.std.proofs.Common.{◌≡◌, ℕ, zero, suc, ◌+◌, ◌<◌, ◌≤◌, ℤ, pos, ◌+ℤ◌, ◌-ℤ◌, ◌*ℤ◌, neg_ℤ, ◌≤ℤ◌, ◌<ℤ◌, Bool, true, false, ◌==◌, List, [], ◌∷◌, refl, sym, ap, ◌∙◌, ◌⊎◌, inl, inr, ⊎_elim, eq-eqb, arith}
+use Rattle.std.proofs.Common.{◌≡◌, ◌≢◌, ℕ, zero, suc, ◌+◌, ◌<◌, ◌≤◌, ℤ, pos, ◌+ℤ◌, ◌-ℤ◌, ◌*ℤ◌, neg_ℤ, ◌≤ℤ◌, ◌<ℤ◌, Bool, true, false, ◌==◌, List, [], ◌∷◌, refl, sym, ap, ◌∙◌, ◌⊎◌, inl, inr, ⊎_elim, eq-eqb, arith}
 use Rattle.std.proofs.lemmas.Int.{ints}
 use Rattle.std.proofs.lemmas.Bool.{cases_lt, ne_eqb}
 use Rattle.theory.specs.Sums.{sum_over, sum_below, Each, counted}
@@ -68,6 +68,49 @@ sum_below-swap (suc m) n f =
     let split : sum_below n (λ j. sum_below m (λ i. f i j) +ℤ f m j) ≡ sum_below n (λ j. sum_below m (λ i. f i j)) +ℤ sum_below n (λ j. f m j) =
         sum_below-add n (λ j. sum_below m (λ i. f i j)) (λ j. f m j) in
     omega (arith, ints)
+
+-- the terms before n and those from n on
+pub sum_below-split : (n m : ℕ) (f : ℕ → ℤ) → sum_below (n + m) f ≡ sum_below n f +ℤ sum_below m (λ k. f (n + k))
+sum_below-split n zero f =
+    let e : n + 0 ≡ n = omega arith in
+    rw e (omega (arith, ints))
+sum_below-split n (suc m) f =
+    let e : n + suc m ≡ suc (n + m) = omega arith in
+    let before : sum_below (n + m) f ≡ sum_below n f +ℤ sum_below m (λ k. f (n + k)) = sum_below-split n m f in
+    rw e (omega (arith, ints))
+
+-- where one term changes the sum changes by as much
+pub sum_below-change : (n i : ℕ) (f g : ℕ → ℤ) → i < n → ((k : ℕ) → k < n → k ≢ i → g k ≡ f k)
+    → sum_below n g +ℤ f i ≡ sum_below n f +ℤ g i
+sum_below-change zero i f g l same = absurd (omega arith)
+sum_below-change (suc n) i f g l same =
+    ⊎_elim
+    (λ (below : i < n).
+        let e : sum_below n g +ℤ f i ≡ sum_below n f +ℤ g i = sum_below-change n i f g below (λ k h ne. same k (omega arith) ne) in
+        let last : g n ≡ f n = same n (omega arith) (λ hit. omega arith) in
+        omega (arith, ints))
+    (λ (above : n ≤ i).
+        let hit : n ≡ i = omega arith in
+        let e : sum_below n g ≡ sum_below n f = sum_below-same n g f (λ k h. same k (omega arith) (λ there. omega arith)) in
+        let f_there : f n ≡ f i = ap f hit in
+        let g_there : g n ≡ g i = ap g hit in
+        omega (arith, ints))
+    (cases_lt i n)
+
+-- no term is above the sum where none is below 0
+pub sum_below-term : (n i : ℕ) (f : ℕ → ℤ) → i < n → ((k : ℕ) → k < n → pos 0 ≤ℤ f k) → f i ≤ℤ sum_below n f
+sum_below-term zero i f l h = absurd (omega arith)
+sum_below-term (suc n) i f l h =
+    let last : pos 0 ≤ℤ f n = h n (omega arith) in
+    ⊎_elim
+    (λ (below : i < n). let e : f i ≤ℤ sum_below n f = sum_below-term n i f below (λ k before. h k (omega arith)) in omega (arith, ints))
+    (λ (above : n ≤ i).
+        let hit : i ≡ n = omega arith in
+        let there : f i ≡ f n = ap f hit in
+        let rest = sum_below-order n (λ k. pos 0) f (λ k before. h k (omega arith)) in
+        let none = sum_below-zero n (λ k. pos 0) (λ k before. refl) in
+        omega (arith, ints))
+    (cases_lt i n)
 
 counted-miss : (i k : ℕ) (x : ℤ) → (i ≡ k → ⊥) → counted (i == k) x ≡ pos 0
 counted-miss i k x ne = rw (ne_eqb i k ne)

@@ -2,6 +2,7 @@
 // The definitions stand in specs/, a module a notion; each law is the contract of a function here.
 #![tactic(auto)]
 
+pub mod certificate_laws;
 mod colour;
 mod ext;
 mod network;
