@@ -2,16 +2,13 @@
 -- speaks of them; a cut and a circuit are refusals by their own laws. Two certificates of different kinds contradict each
 -- other: an optimum and an unbounded plan both have a feasible flow, which a cut refuses, and an optimum has a feasible
 -- potential, which a circuit refuses.
-use Rattle.std.proofs.Common.{◌≡◌, ℕ, ℤ, List, Bool, sym, ◌∙◌, arith}
-use Rattle.theory.specs.declared.network.Step.{Step}
-use Rattle.theory.specs.Network.{Network, IsNetwork, «at», curve}
+use Rattle.std.proofs.Common.{sym, ◌∙◌, arith}
+use Rattle.theory.specs.Network.{Network, «at», curve}
 use Rattle.theory.specs.Conserved.{tension}
-use Rattle.theory.specs.Feasible.{IsFeasibleFlow, IsFeasiblePotential}
-use Rattle.theory.specs.Best.{FlowIsRefused, TensionIsRefused}
-use Rattle.theory.specs.Certificate.{Certificate, IsOptimalPair, IsPotentialOf, IsValid}
+use Rattle.theory.specs.Certificate.{Certificate}
 use Rattle.theory.specs.Certificate.Certificate.{optimal, cut, circuit}
 use Rattle.theory.specs.CurveLaws.{FenchelEqualityLaw, WholeFlowLaw, WholeTensionLaw}
-use Rattle.theory.specs.CertificateLaws.{IsOptimum, Says, CertificateLaw, IsSameKind, OneKindLaw}
+use Rattle.theory.specs.CertificateLaws.{Says, CertificateLaw, IsSameKind, OneKindLaw}
 use Rattle.theory.proofs.Duality.{optimal_pair}
 use Rattle.theory.proofs.Refusals.{negative_cut, negative_circuit}
 

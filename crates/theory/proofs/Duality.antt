@@ -3,10 +3,8 @@
 -- costs. With Fenchel's inequality at one denominator that is weak duality. Let a pair lie on its curves. Then it is an
 -- equation, and value and cost are equal. Any other flow, over any denominator, is compared with this pair's whole
 -- tensions, and any other potential with its whole flows: no flow costs less and no potential has a greater value.
-use Rattle.std.proofs.Common.{◌≡◌, ℕ, ◌+◌, ◌<◌, ◌≤◌, ℤ, pos, ◌+ℤ◌, ◌-ℤ◌, ◌*ℤ◌, neg_ℤ, ◌≤ℤ◌, List, length, arith}
+use Rattle.std.proofs.Common.{◌≡◌, ℕ, ◌<◌, ◌≤◌, ℤ, pos, ◌+ℤ◌, ◌*ℤ◌, neg_ℤ, ◌≤ℤ◌, length, arith}
 use Rattle.std.proofs.lemmas.Int.{ints}
-use Rattle.theory.specs.Sums.{sum_below}
-use Rattle.theory.specs.CurveList.{Listing}
 use Rattle.theory.specs.OnCurve.{IsOnCurve}
 use Rattle.theory.specs.Domain.{InDomain}
 use Rattle.theory.specs.Span.{InSpan}
@@ -15,10 +13,8 @@ use Rattle.theory.specs.ConjugateCost.{conjugate_cost}
 use Rattle.theory.specs.CurveLaws.{FenchelLaw, FenchelEqualityLaw, WholeFlowLaw, WholeTensionLaw}
 use Rattle.theory.specs.Network.{Network, IsNetwork, «at», curve, over_arcs}
 use Rattle.theory.specs.Conserved.{IsConserved, tension}
-use Rattle.theory.specs.Feasible.{IsFeasibleFlow, IsFeasiblePotential}
 use Rattle.theory.specs.Totals.{total_cost, total_value}
-use Rattle.theory.specs.Best.{IsLeast, IsGreatest}
-use Rattle.theory.specs.NetworkLaws.{WeakDualityLaw, IsBest, OptimalPairLaw}
+use Rattle.theory.specs.NetworkLaws.{WeakDualityLaw, OptimalPairLaw}
 use Rattle.theory.proofs.Rings.{rings, scale_cancel}
 use Rattle.theory.proofs.Sums.{sum_below-same, sum_below-add, sum_below-mul, sum_below-order}
 use Rattle.theory.proofs.SumLaw.{sum_law}
@@ -46,8 +42,8 @@ weak_duality fenchel net q x u q_pos good flow potential =
     let costs = λ (j : ℕ). cost q (curve net j) («at» x j) in
     let conjugates = λ (j : ℕ). conjugate_cost q (curve net j) (tension net («at» u) j) in
     let law = by_arcs net («at» x) («at» u) (λ j. pos q *ℤ costs j) (λ j. pos q *ℤ conjugates j) good flow.conserved
-            (λ j l. fenchel q (curve net j) («at» x j) (tension net («at» u) j)
-                (good.curve_lists j l) (flow.in_domains j l) (potential.in_spans j l)) in
+    (λ j l. fenchel q (curve net j) («at» x j) (tension net («at» u) j)
+    (good.curve_lists j l) (flow.in_domains j l) (potential.in_spans j l)) in
     let left = sum_below-mul (length net.arcs) (pos q) costs in
     let right = sum_below-mul (length net.arcs) (pos q) conjugates in
     scale_cancel q (neg_ℤ (over_arcs net conjugates)) (over_arcs net costs) q_pos (omega (arith, rings))
@@ -60,10 +56,10 @@ pub optimal-equal : FenchelEqualityLaw → (net : Network) (x u : ℕ → ℤ) �
     → total_cost 1 net x ≡ total_value 1 net u
 optimal-equal equality net x u good conserved on_curves =
     by_arcs-equal net x u
-        (λ j. cost 1 (curve net j) (x j))
-        (λ j. conjugate_cost 1 (curve net j) (tension net u j))
-        good conserved
-        (λ j l. let e = (equality 1 (curve net j) (x j) (tension net u j) (omega arith) (good.curve_lists j l)).equal (on_curves j l) in omega (arith, ints))
+    (λ j. cost 1 (curve net j) (x j))
+    (λ j. conjugate_cost 1 (curve net j) (tension net u j))
+    good conserved
+    (λ j l. let e = (equality 1 (curve net j) (x j) (tension net u j) (omega arith) (good.curve_lists j l)).equal (on_curves j l) in omega (arith, ints))
 
 -- the value of whole potentials, times q, is at most the cost of every flow over q
 pub value_below : WholeTensionLaw → FenchelEqualityLaw → (net : Network) (x u : ℕ → ℤ) (q : ℕ) (p : ℕ → ℤ) → 1 ≤ q → IsNetwork net
@@ -72,8 +68,8 @@ pub value_below : WholeTensionLaw → FenchelEqualityLaw → (net : Network) (x 
 value_below whole equality net x u q p q_pos good on_curves conserved in_domains =
     let conjugates = λ (j : ℕ). conjugate_cost 1 (curve net j) (tension net u j) in
     let law = by_arcs net p u (λ j. cost q (curve net j) (p j)) (λ j. pos q *ℤ conjugates j) good conserved
-            (λ j l. whole q (curve net j) (p j) (tension net u j) q_pos (good.curve_lists j l) (in_domains j l)
-                ((equality 1 (curve net j) (x j) (tension net u j) (omega arith) (good.curve_lists j l)).in_span (on_curves j l))) in
+    (λ j l. whole q (curve net j) (p j) (tension net u j) q_pos (good.curve_lists j l) (in_domains j l)
+    ((equality 1 (curve net j) (x j) (tension net u j) (omega arith) (good.curve_lists j l)).in_span (on_curves j l))) in
     let right = sum_below-mul (length net.arcs) (pos q) conjugates in
     omega (arith, rings)
 
@@ -84,7 +80,7 @@ pub cost_above : WholeFlowLaw → (net : Network) (x u : ℕ → ℤ) (q : ℕ) 
 cost_above whole net x u q w q_pos good on_curves conserved in_spans =
     let costs = λ (j : ℕ). cost 1 (curve net j) (x j) in
     let law = by_arcs net x w (λ j. pos q *ℤ costs j) (λ j. conjugate_cost q (curve net j) (tension net w j)) good conserved
-            (λ j l. whole q (curve net j) (x j) (tension net w j) q_pos (good.curve_lists j l) (on_curves j l).in_domain (in_spans j l)) in
+    (λ j l. whole q (curve net j) (x j) (tension net w j) q_pos (good.curve_lists j l) (on_curves j l).in_domain (in_spans j l)) in
     let left = sum_below-mul (length net.arcs) (pos q) costs in
     omega (arith, rings)
 

@@ -1,18 +1,16 @@
 -- The grounded network of a model is a network. An arc's number says which list it comes from: below the count of model
 -- nodes it is a ground arc, from there on a model arc. A ground arc leaves node 0 for a node above 0. A model arc joins
 -- what its entry joins, one higher. Each arc's curve stands at the same number in the list of curves.
-use Rattle.std.proofs.Common.{◌≡◌, ◌≢◌, ℕ, zero, suc, ◌+◌, ◌-◌, ◌<◌, ◌≤◌, List, ◌++◌, map, length, get_or, slice_index_or, refl, sym, ap, ◌∙◌, subst, ⊎_elim, length-append, arith}
+use Rattle.std.proofs.Common.{◌≡◌, ◌≢◌, ℕ, ◌+◌, ◌-◌, ◌<◌, ◌≤◌, List, map, length, slice_index_or, sym, ap, ◌∙◌, subst, ⊎_elim, length-append, arith}
 use Rattle.std.specs.List.{enumerate_from}
 use Rattle.std.proofs.lemmas.Bool.{cases_lt}
 use Rattle.std.proofs.lemmas.List.{length-map, get_or-map, get_or_append_left, get_or-append-add}
 use Rattle.std.proofs.lemmas.List.FromFn.{length-enumerate_from, get_or-enumerate_from}
-use Rattle.std.specs.Prelude.{[], ◌∷◌, ℤ, pos, ◌+ℤ◌}
-use Rattle.theory.specs.declared.ext.Ext.TheVariants.{At}
-use Rattle.theory.specs.declared.network.Arc.{Arc}
+use Rattle.std.specs.Prelude.{[], ℤ, pos, ◌+ℤ◌}
 use Rattle.theory.specs.Sums.{sum_below}
-use Rattle.theory.specs.CurveList.{Listing, IsCurveList}
-use Rattle.theory.specs.Network.{Network, IsNetwork, arc_at, tail, head, curve, over_arcs}
-use Rattle.theory.specs.Grounded.{NodeEntry, ArcEntry, Entries, IsModel, joining, ground_arcs, model_arcs, grounded}
+use Rattle.theory.specs.CurveList.{IsCurveList}
+use Rattle.theory.specs.Network.{arc_at, tail, head, curve, over_arcs}
+use Rattle.theory.specs.Grounded.{NodeEntry, ArcEntry, Entries, joining, ground_arcs, model_arcs, grounded}
 use Rattle.theory.specs.CertificateLaws.{GroundedLaw}
 use Rattle.theory.proofs.Sums.{sum_below-split}
 
@@ -95,7 +93,7 @@ pub curve-model : (m : Entries) (k : ℕ) (d : ArcEntry) → k < length m.arcs
     → curve (grounded m) (length m.nodes + k) ≡ (slice_index_or m.arcs k d).curve
 curve-model m k d l =
     let place : length m.nodes + k ≡ length (map (λ (entry : NodeEntry). entry.supply) m.nodes) + k =
-        ap (λ n. n + k) (sym (length-map m.nodes (λ entry. entry.supply))) in
+    ap (λ n. n + k) (sym (length-map m.nodes (λ entry. entry.supply))) in
     ap (curve (grounded m)) place
     ∙ get_or-append-add (map (λ entry. entry.supply) m.nodes) (map (λ entry. entry.curve) m.arcs) k _
     ∙ get_or-map (λ entry. entry.curve) m.arcs k d _ l

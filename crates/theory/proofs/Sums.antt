@@ -1,9 +1,9 @@
 -- Sums below a bound and over a list: sameness, additivity, a common factor, order, exchange, a single hit.
-use Rattle.std.proofs.Common.{◌≡◌, ◌≢◌, ℕ, zero, suc, ◌+◌, ◌<◌, ◌≤◌, ℤ, pos, ◌+ℤ◌, ◌-ℤ◌, ◌*ℤ◌, neg_ℤ, ◌≤ℤ◌, ◌<ℤ◌, Bool, true, false, ◌==◌, List, [], ◌∷◌, refl, sym, ap, ◌∙◌, ◌⊎◌, inl, inr, ⊎_elim, eq-eqb, arith}
+use Rattle.std.proofs.Common.{◌≡◌, ◌≢◌, ℕ, zero, suc, ◌+◌, ◌<◌, ◌≤◌, ℤ, pos, ◌+ℤ◌, ◌-ℤ◌, ◌*ℤ◌, ◌≤ℤ◌, ◌==◌, List, [], ◌∷◌, refl, sym, ap, ⊎_elim, eq-eqb, arith}
 use Rattle.std.proofs.lemmas.Int.{ints}
 use Rattle.std.proofs.lemmas.Bool.{cases_lt, ne_eqb}
 use Rattle.theory.specs.Sums.{sum_over, sum_below, Each, counted}
-use Rattle.theory.proofs.Rings.{rings, scale_mono}
+use Rattle.theory.proofs.Rings.{rings}
 
 -- ---- below a bound
 
@@ -66,7 +66,7 @@ sum_below-swap zero n f = sym (sum_below-zero n (λ j. pos 0) (λ k l. refl))
 sum_below-swap (suc m) n f =
     let e : sum_below m (λ i. sum_below n (λ j. f i j)) ≡ sum_below n (λ j. sum_below m (λ i. f i j)) = sum_below-swap m n f in
     let split : sum_below n (λ j. sum_below m (λ i. f i j) +ℤ f m j) ≡ sum_below n (λ j. sum_below m (λ i. f i j)) +ℤ sum_below n (λ j. f m j) =
-        sum_below-add n (λ j. sum_below m (λ i. f i j)) (λ j. f m j) in
+    sum_below-add n (λ j. sum_below m (λ i. f i j)) (λ j. f m j) in
     omega (arith, ints)
 
 -- the terms before n and those from n on
@@ -86,15 +86,15 @@ sum_below-change zero i f g l same = absurd (omega arith)
 sum_below-change (suc n) i f g l same =
     ⊎_elim
     (λ (below : i < n).
-        let e : sum_below n g +ℤ f i ≡ sum_below n f +ℤ g i = sum_below-change n i f g below (λ k h ne. same k (omega arith) ne) in
-        let last : g n ≡ f n = same n (omega arith) (λ hit. omega arith) in
-        omega (arith, ints))
+    let e : sum_below n g +ℤ f i ≡ sum_below n f +ℤ g i = sum_below-change n i f g below (λ k h ne. same k (omega arith) ne) in
+    let last : g n ≡ f n = same n (omega arith) (λ hit. omega arith) in
+    omega (arith, ints))
     (λ (above : n ≤ i).
-        let hit : n ≡ i = omega arith in
-        let e : sum_below n g ≡ sum_below n f = sum_below-same n g f (λ k h. same k (omega arith) (λ there. omega arith)) in
-        let f_there : f n ≡ f i = ap f hit in
-        let g_there : g n ≡ g i = ap g hit in
-        omega (arith, ints))
+    let hit : n ≡ i = omega arith in
+    let e : sum_below n g ≡ sum_below n f = sum_below-same n g f (λ k h. same k (omega arith) (λ there. omega arith)) in
+    let f_there : f n ≡ f i = ap f hit in
+    let g_there : g n ≡ g i = ap g hit in
+    omega (arith, ints))
     (cases_lt i n)
 
 -- no term is above the sum where none is below 0
@@ -105,11 +105,11 @@ sum_below-term (suc n) i f l h =
     ⊎_elim
     (λ (below : i < n). let e : f i ≤ℤ sum_below n f = sum_below-term n i f below (λ k before. h k (omega arith)) in omega (arith, ints))
     (λ (above : n ≤ i).
-        let hit : i ≡ n = omega arith in
-        let there : f i ≡ f n = ap f hit in
-        let rest = sum_below-order n (λ k. pos 0) f (λ k before. h k (omega arith)) in
-        let none = sum_below-zero n (λ k. pos 0) (λ k before. refl) in
-        omega (arith, ints))
+    let hit : i ≡ n = omega arith in
+    let there : f i ≡ f n = ap f hit in
+    let rest = sum_below-order n (λ k. pos 0) f (λ k before. h k (omega arith)) in
+    let none = sum_below-zero n (λ k. pos 0) (λ k before. refl) in
+    omega (arith, ints))
     (cases_lt i n)
 
 counted-miss : (i k : ℕ) (x : ℤ) → (i ≡ k → ⊥) → counted (i == k) x ≡ pos 0
@@ -124,16 +124,16 @@ sum_below-pick zero i f l = absurd (omega arith)
 sum_below-pick (suc n) i f l =
     ⊎_elim
     (λ (below : i < n).
-        let e : sum_below n (λ k. counted (i == k) (f k)) ≡ f i = sum_below-pick n i f below in
-        let last : counted (i == n) (f n) ≡ pos 0 = counted-miss i n (f n) (λ same. omega arith) in
-        omega (arith, ints))
+    let e : sum_below n (λ k. counted (i == k) (f k)) ≡ f i = sum_below-pick n i f below in
+    let last : counted (i == n) (f n) ≡ pos 0 = counted-miss i n (f n) (λ same. omega arith) in
+    omega (arith, ints))
     (λ (above : n ≤ i).
-        let same : i ≡ n = omega arith in
-        let e : sum_below n (λ k. counted (i == k) (f k)) ≡ pos 0 =
-            sum_below-zero n (λ k. counted (i == k) (f k)) (λ k below. counted-miss i k (f k) (λ hit. omega arith)) in
-        let last : counted (i == n) (f n) ≡ f n = counted-hit i n (f n) same in
-        let there : f i ≡ f n = ap f same in
-        omega (arith, ints))
+    let same : i ≡ n = omega arith in
+    let e : sum_below n (λ k. counted (i == k) (f k)) ≡ pos 0 =
+    sum_below-zero n (λ k. counted (i == k) (f k)) (λ k below. counted-miss i k (f k) (λ hit. omega arith)) in
+    let last : counted (i == n) (f n) ≡ f n = counted-hit i n (f n) same in
+    let there : f i ≡ f n = ap f same in
+    omega (arith, ints))
     (cases_lt i n)
 
 -- ---- over a list

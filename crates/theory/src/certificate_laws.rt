@@ -5,5 +5,4 @@ ghost use Rattle.theory.specs.CertificateLaws.{GroundedLaw};
 /// The grounded network of a model is a network.
 pub fn grounded_law()
     ensures { GroundedLaw }
-{
-}
+{}

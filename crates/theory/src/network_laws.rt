@@ -5,17 +5,14 @@ ghost use Rattle.theory.specs.NetworkLaws.{SumLaw, NegativeCutLaw, NegativeCircu
 /// A conserved flow is orthogonal to every tension.
 pub fn sum_law()
     ensures { SumLaw }
-{
-}
+{}
 
 /// A negative cut refuses every flow.
 pub fn negative_cut_law()
     ensures { NegativeCutLaw }
-{
-}
+{}
 
 /// A negative circuit refuses every potential.
 pub fn negative_circuit_law()
     ensures { NegativeCircuitLaw }
-{
-}
+{}
