@@ -16,7 +16,7 @@ use Rattle.theory.specs.Conserved.{IsConserved, tension}
 use Rattle.theory.specs.Totals.{total_cost, total_value}
 use Rattle.theory.specs.NetworkLaws.{WeakDualityLaw, OptimalPairLaw}
 use Rattle.theory.proofs.Rings.{rings, scale_cancel}
-use Rattle.theory.proofs.Sums.{sum_below-same, sum_below-add, sum_below-mul, sum_below-order}
+use Rattle.theory.proofs.SumsBelow.{sum_below-same, sum_below-add, sum_below-mul, sum_below-order}
 use Rattle.theory.proofs.SumLaw.{sum_law}
 
 -- where each arc's flow times tension is at most a + b, the sum of a is at least minus that of b

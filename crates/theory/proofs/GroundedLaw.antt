@@ -12,7 +12,7 @@ use Rattle.theory.specs.CurveList.{IsCurveList}
 use Rattle.theory.specs.Network.{arc_at, tail, head, curve, over_arcs}
 use Rattle.theory.specs.Grounded.{NodeEntry, ArcEntry, Entries, joining, ground_arcs, model_arcs, grounded}
 use Rattle.theory.specs.CertificateLaws.{GroundedLaw}
-use Rattle.theory.proofs.Sums.{sum_below-split}
+use Rattle.theory.proofs.SumsBelow.{sum_below-split}
 
 -- what holds of the first n numbers and of the m next ones holds of all below n + m
 pub by_number : (n m : ℕ) (P : ℕ → Type 0) → ((i : ℕ) → i < n → P i) → ((k : ℕ) → k < m → P (n + k)) → (j : ℕ) → j < n + m → P j

@@ -3,7 +3,7 @@ pub mod Rings
 -- Curve lists:
 pub mod Shape
 -- Networks:
-pub mod Sums
+pub mod SumsBelow
 pub mod SumLaw
 pub mod Duality
 pub mod Refusals

@@ -17,7 +17,7 @@ use Rattle.theory.specs.Cut.{holds, cut_end, cut_sum}
 use Rattle.theory.specs.Circuit.{step, begin_of, end_of, IsCircuit, WalkIsThere, span_end, span_sum, SpanCounts}
 use Rattle.theory.specs.NetworkLaws.{NegativeCutLaw, NegativeCircuitLaw}
 use Rattle.theory.proofs.Rings.{rings, scale_strict}
-use Rattle.theory.proofs.Sums.{sum_below-mul, sum_below-order, sum_over-mul, sum_over-order}
+use Rattle.theory.proofs.SumsBelow.{sum_below-mul, sum_below-order, sum_over-mul, sum_over-order}
 use Rattle.theory.proofs.SumLaw.{crossing, cut_law-conserved}
 
 -- ---- a finite end bounds

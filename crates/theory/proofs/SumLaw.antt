@@ -10,7 +10,7 @@ use Rattle.theory.specs.Network.{Network, IsNetwork, tail, head, over_arcs}
 use Rattle.theory.specs.Conserved.{IsConserved, outflow, inflow, divergence, tension}
 use Rattle.theory.specs.NetworkLaws.{SumLaw}
 use Rattle.theory.proofs.Rings.{rings}
-use Rattle.theory.proofs.Sums.{sum_below-same, sum_below-zero, sum_below-add, sum_below-sub, sum_below-mul, sum_below-pick}
+use Rattle.theory.proofs.SumsBelow.{sum_below-same, sum_below-zero, sum_below-add, sum_below-sub, sum_below-mul, sum_below-pick}
 
 -- the sum over all nodes
 abbrev pub over_nodes : Network → (ℕ → ℤ) → ℤ
