@@ -4,6 +4,7 @@
 
 pub mod certificate_laws;
 mod colour;
+pub mod curve_laws;
 mod ext;
 mod network;
 pub mod network_laws;
