@@ -2,7 +2,7 @@
 -- at least q times the lower end on each that enters it, so the net flow across is at most q times the cut sum, which is
 -- negative; but nothing conserved crosses a set on the whole. A negative circuit: along the circuit the potential
 -- differences add up to 0, and each is at most q times what the step adds to the span sum, which is negative.
-use Rattle.std.proofs.Common.{◌≡◌, ℕ, suc, ◌+◌, ◌<◌, ℤ, pos, ◌-ℤ◌, ◌*ℤ◌, neg_ℤ, ◌≤ℤ◌, Bool, true, false, not, ◌&&◌, if◌then◌else◌, List, [], ◌∷◌, length, ap, arith}
+use Rattle.std.proofs.Common.{◌≡◌, ℕ, suc, ◌+◌, ◌<◌, ℤ, pos, ◌-ℤ◌, ◌*ℤ◌, neg_ℤ, ◌≤ℤ◌, Bool, true, false, not, ◌&&◌, if◌then◌else◌, List, [], ◌∷◌, length, refl, ap, arith}
 use Rattle.std.proofs.lemmas.Int.{ints}
 use Rattle.theory.specs.declared.ext.Ext.{Ext}
 use Rattle.theory.specs.declared.ext.Ext.TheVariants.{MinusInf, At, PlusInf}
@@ -17,7 +17,8 @@ use Rattle.theory.specs.Cut.{holds, cut_end, cut_sum}
 use Rattle.theory.specs.Circuit.{step, begin_of, end_of, IsCircuit, WalkIsThere, span_end, span_sum, SpanCounts}
 use Rattle.theory.specs.NetworkLaws.{NegativeCutLaw, NegativeCircuitLaw}
 use Rattle.theory.proofs.Rings.{rings, scale_strict}
-use Rattle.theory.proofs.SumsBelow.{sum_below-mul, sum_below-order, sum_over-mul, sum_over-order}
+use Rattle.theory.proofs.Sums.{sum_over-scale, sum_over-order}
+use Rattle.theory.proofs.SumsBelow.{sum_below-mul, sum_below-order}
 use Rattle.theory.proofs.SumLaw.{crossing, cut_law-conserved}
 
 -- ---- a finite end bounds
@@ -102,6 +103,6 @@ negative_circuit net walk good there circuit q u q_pos potential =
     let bound = sum_over-order
     (λ t. «at» u (end_of net t) -ℤ «at» u (begin_of net t)) (λ t. pos q *ℤ whole (span_end net t)) walk
     (steps_below net q («at» u) walk potential.in_spans there circuit.counts) in
-    let total = sum_over-mul (pos q) (λ t. whole (span_end net t)) walk in
+    let total = sum_over-scale (pos q) (λ t. pos q *ℤ whole (span_end net t)) (λ t. whole (span_end net t)) walk (λ t. refl) in
     let strict = scale_strict q (span_sum net walk) (pos 0) q_pos circuit.negative in
     absurd (omega (arith, ints))

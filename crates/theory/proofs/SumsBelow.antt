@@ -1,11 +1,9 @@
--- Sums below a bound and over a list: sameness, additivity, a common factor, order, exchange, a single hit.
+-- Sums below a bound: sameness, additivity, a common factor, order, exchange, a single hit.
 use Rattle.std.proofs.Common.{◌≡◌, ◌≢◌, ℕ, zero, suc, ◌+◌, ◌<◌, ◌≤◌, ℤ, pos, ◌+ℤ◌, ◌-ℤ◌, ◌*ℤ◌, ◌≤ℤ◌, ◌==◌, List, [], ◌∷◌, refl, sym, ap, ⊎_elim, eq-eqb, arith}
 use Rattle.std.proofs.lemmas.Int.{ints}
 use Rattle.std.proofs.lemmas.Bool.{cases_lt, ne_eqb}
 use Rattle.theory.specs.Sums.{sum_over, sum_below, Each, counted}
 use Rattle.theory.proofs.Rings.{rings}
-
--- ---- below a bound
 
 pub sum_below-same : (n : ℕ) (f g : ℕ → ℤ) → ((k : ℕ) → k < n → f k ≡ g k) → sum_below n f ≡ sum_below n g
 sum_below-same zero f g h = refl
@@ -135,23 +133,3 @@ sum_below-pick (suc n) i f l =
     let there : f i ≡ f n = ap f same in
     omega (arith, ints))
     (cases_lt i n)
-
--- ---- over a list
-
-pub sum_over-add : {A : Type 0} (f g : A → ℤ) (xs : List A) → sum_over (λ x. f x +ℤ g x) xs ≡ sum_over f xs +ℤ sum_over g xs
-sum_over-add f g [] = refl
-sum_over-add f g (x ∷ xs) =
-    let e : sum_over (λ y. f y +ℤ g y) xs ≡ sum_over f xs +ℤ sum_over g xs = sum_over-add f g xs in
-    omega (arith, ints)
-
-pub sum_over-mul : {A : Type 0} (a : ℤ) (f : A → ℤ) (xs : List A) → sum_over (λ x. a *ℤ f x) xs ≡ a *ℤ sum_over f xs
-sum_over-mul a f [] = omega (arith, ints)
-sum_over-mul a f (x ∷ xs) =
-    let e : sum_over (λ y. a *ℤ f y) xs ≡ a *ℤ sum_over f xs = sum_over-mul a f xs in
-    omega (arith, rings)
-
-pub sum_over-order : {A : Type 0} (f g : A → ℤ) (xs : List A) → Each (λ x. f x ≤ℤ g x) xs → sum_over f xs ≤ℤ sum_over g xs
-sum_over-order f g [] h = omega (arith, ints)
-sum_over-order f g (x ∷ xs) h =
-    let e : sum_over f xs ≤ℤ sum_over g xs = sum_over-order f g xs h.1 in
-    omega (arith, ints, h.0)
