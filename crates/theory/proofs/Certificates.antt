@@ -7,14 +7,14 @@ use Rattle.theory.specs.Network.{Network, «at», curve}
 use Rattle.theory.specs.Conserved.{tension}
 use Rattle.theory.specs.Certificate.{Certificate}
 use Rattle.theory.specs.Certificate.Certificate.{optimal, cut, circuit}
-use Rattle.theory.specs.CurveLaws.{FenchelEqualityLaw, WholeFlowLaw, WholeTensionLaw}
 use Rattle.theory.specs.CertificateLaws.{Says, CertificateLaw, IsSameKind, OneKindLaw}
+use Rattle.theory.proofs.Equality.{fenchel_equality}
 use Rattle.theory.proofs.Duality.{optimal_pair}
 use Rattle.theory.proofs.Refusals.{negative_cut, negative_circuit}
 
-pub certificate_law : FenchelEqualityLaw → WholeFlowLaw → WholeTensionLaw → CertificateLaw
-certificate_law equality whole_flow whole_tension net (optimal x u cost value) good valid =
-    let best = optimal_pair equality whole_flow whole_tension net x u good valid.shows.conserved valid.shows.on_curves in
+pub certificate_says : CertificateLaw
+certificate_says net (optimal x u cost value) good valid =
+    let best = optimal_pair net x u good valid.shows.conserved valid.shows.on_curves in
     record {
       flow = record {
         one_each = valid.fits.0.0.one_each;
@@ -25,14 +25,14 @@ certificate_law equality whole_flow whole_tension net (optimal x u cost value) g
         one_each = valid.fits.0.1.numbers.one_each;
         ground = valid.fits.0.1.ground;
         in_spans = λ j l.
-            (equality 1 (curve net j) («at» x j) (tension net («at» u) j) (omega arith) (good.curve_lists j l)).in_span (valid.shows.on_curves j l);
+            (fenchel_equality 1 (curve net j) («at» x j) (tension net («at» u) j) (omega arith) (good.curve_lists j l)).in_span (valid.shows.on_curves j l);
       };
       equal = valid.right.0 ∙ best.equal ∙ sym valid.right.1;
       least = rw valid.right.0 best.least;
       greatest = rw valid.right.1 best.greatest;
     }
-certificate_law equality whole_flow whole_tension net (cut side capacity) good valid = negative_cut net side good valid.shows
-certificate_law equality whole_flow whole_tension net (circuit x walk span) good valid =
+certificate_says net (cut side capacity) good valid = negative_cut net side good valid.shows
+certificate_says net (circuit x walk span) good valid =
     record {
       flow = valid.shows.0;
       no_potential = negative_circuit net walk good valid.fits.0.1.there valid.shows.1;
@@ -50,5 +50,5 @@ same_kind net (circuit x walk span) (optimal y w cost value) says other = says.n
 same_kind net (circuit x walk span) (cut side capacity) says other = other 1 x (omega arith) says.flow
 same_kind net (circuit x walk span) (circuit y other_walk other_span) says other = tt
 
-pub one_kind_law : CertificateLaw → OneKindLaw
-one_kind_law law net c d good valid other_valid = same_kind net c d (law net c good valid) (law net d good other_valid)
+pub one_kind : OneKindLaw
+one_kind net c d good valid other_valid = same_kind net c d (certificate_says net c good valid) (certificate_says net d good other_valid)

@@ -10,7 +10,6 @@ use Rattle.theory.specs.Domain.{InDomain}
 use Rattle.theory.specs.Span.{InSpan}
 use Rattle.theory.specs.Cost.{cost}
 use Rattle.theory.specs.ConjugateCost.{conjugate_cost}
-use Rattle.theory.specs.CurveLaws.{FenchelLaw, FenchelEqualityLaw, WholeFlowLaw, WholeTensionLaw}
 use Rattle.theory.specs.Network.{Network, IsNetwork, «at», curve, over_arcs}
 use Rattle.theory.specs.Conserved.{IsConserved, tension}
 use Rattle.theory.specs.Totals.{total_cost, total_value}
@@ -18,6 +17,9 @@ use Rattle.theory.specs.NetworkLaws.{WeakDualityLaw, OptimalPairLaw}
 use Rattle.theory.proofs.Rings.{rings, scale_cancel}
 use Rattle.theory.proofs.SumsBelow.{sum_below-same, sum_below-add, sum_below-mul, sum_below-order}
 use Rattle.theory.proofs.SumLaw.{sum_law}
+use Rattle.theory.proofs.Fenchel.{fenchel}
+use Rattle.theory.proofs.Equality.{fenchel_equality}
+use Rattle.theory.proofs.Whole.{whole_flow, whole_tension}
 
 -- where each arc's flow times tension is at most a + b, the sum of a is at least minus that of b
 pub by_arcs : (net : Network) (x u a b : ℕ → ℤ) → IsNetwork net → IsConserved net x
@@ -37,8 +39,8 @@ by_arcs-equal net x u a b good conserved h =
     let apart = sum_below-add (length net.arcs) a b in
     omega (arith, ints)
 
-pub weak_duality : FenchelLaw → WeakDualityLaw
-weak_duality fenchel net q x u q_pos good flow potential =
+pub weak_duality : WeakDualityLaw
+weak_duality net q x u q_pos good flow potential =
     let costs = λ (j : ℕ). cost q (curve net j) («at» x j) in
     let conjugates = λ (j : ℕ). conjugate_cost q (curve net j) (tension net («at» u) j) in
     let law = by_arcs net («at» x) («at» u) (λ j. pos q *ℤ costs j) (λ j. pos q *ℤ conjugates j) good flow.conserved
@@ -52,43 +54,43 @@ weak_duality fenchel net q x u q_pos good flow potential =
 abbrev pub AllOnCurves : Network → (ℕ → ℤ) → (ℕ → ℤ) → Type 0
 AllOnCurves net x u = (j : ℕ) → j < length net.arcs → IsOnCurve 1 (curve net j).items (x j) (tension net u j)
 
-pub optimal-equal : FenchelEqualityLaw → (net : Network) (x u : ℕ → ℤ) → IsNetwork net → IsConserved net x → AllOnCurves net x u
+pub optimal-equal : (net : Network) (x u : ℕ → ℤ) → IsNetwork net → IsConserved net x → AllOnCurves net x u
     → total_cost 1 net x ≡ total_value 1 net u
-optimal-equal equality net x u good conserved on_curves =
+optimal-equal net x u good conserved on_curves =
     by_arcs-equal net x u
     (λ j. cost 1 (curve net j) (x j))
     (λ j. conjugate_cost 1 (curve net j) (tension net u j))
     good conserved
-    (λ j l. let e = (equality 1 (curve net j) (x j) (tension net u j) (omega arith) (good.curve_lists j l)).equal (on_curves j l) in omega (arith, ints))
+    (λ j l. let e = (fenchel_equality 1 (curve net j) (x j) (tension net u j) (omega arith) (good.curve_lists j l)).equal (on_curves j l) in omega (arith, ints))
 
 -- the value of whole potentials, times q, is at most the cost of every flow over q
-pub value_below : WholeTensionLaw → FenchelEqualityLaw → (net : Network) (x u : ℕ → ℤ) (q : ℕ) (p : ℕ → ℤ) → 1 ≤ q → IsNetwork net
+pub value_below : (net : Network) (x u : ℕ → ℤ) (q : ℕ) (p : ℕ → ℤ) → 1 ≤ q → IsNetwork net
     → AllOnCurves net x u → IsConserved net p → ((j : ℕ) → j < length net.arcs → InDomain q (curve net j).items (p j))
     → (pos q *ℤ total_value 1 net u) ≤ℤ total_cost q net p
-value_below whole equality net x u q p q_pos good on_curves conserved in_domains =
+value_below net x u q p q_pos good on_curves conserved in_domains =
     let conjugates = λ (j : ℕ). conjugate_cost 1 (curve net j) (tension net u j) in
     let law = by_arcs net p u (λ j. cost q (curve net j) (p j)) (λ j. pos q *ℤ conjugates j) good conserved
-    (λ j l. whole q (curve net j) (p j) (tension net u j) q_pos (good.curve_lists j l) (in_domains j l)
-    ((equality 1 (curve net j) (x j) (tension net u j) (omega arith) (good.curve_lists j l)).in_span (on_curves j l))) in
+    (λ j l. whole_tension q (curve net j) (p j) (tension net u j) q_pos (good.curve_lists j l) (in_domains j l)
+    ((fenchel_equality 1 (curve net j) (x j) (tension net u j) (omega arith) (good.curve_lists j l)).in_span (on_curves j l))) in
     let right = sum_below-mul (length net.arcs) (pos q) conjugates in
     omega (arith, rings)
 
 -- the cost of a whole flow, times q, is at least the value of every potential over q
-pub cost_above : WholeFlowLaw → (net : Network) (x u : ℕ → ℤ) (q : ℕ) (w : ℕ → ℤ) → 1 ≤ q → IsNetwork net
+pub cost_above : (net : Network) (x u : ℕ → ℤ) (q : ℕ) (w : ℕ → ℤ) → 1 ≤ q → IsNetwork net
     → AllOnCurves net x u → IsConserved net x → ((j : ℕ) → j < length net.arcs → InSpan q (curve net j).items (tension net w j))
     → total_value q net w ≤ℤ (pos q *ℤ total_cost 1 net x)
-cost_above whole net x u q w q_pos good on_curves conserved in_spans =
+cost_above net x u q w q_pos good on_curves conserved in_spans =
     let costs = λ (j : ℕ). cost 1 (curve net j) (x j) in
     let law = by_arcs net x w (λ j. pos q *ℤ costs j) (λ j. conjugate_cost q (curve net j) (tension net w j)) good conserved
-    (λ j l. whole q (curve net j) (x j) (tension net w j) q_pos (good.curve_lists j l) (on_curves j l).in_domain (in_spans j l)) in
+    (λ j l. whole_flow q (curve net j) (x j) (tension net w j) q_pos (good.curve_lists j l) (on_curves j l).in_domain (in_spans j l)) in
     let left = sum_below-mul (length net.arcs) (pos q) costs in
     omega (arith, rings)
 
-pub optimal_pair : FenchelEqualityLaw → WholeFlowLaw → WholeTensionLaw → OptimalPairLaw
-optimal_pair equality whole_flow whole_tension net x u good conserved on_curves =
-    let same = optimal-equal equality net («at» x) («at» u) good conserved on_curves in
+pub optimal_pair : OptimalPairLaw
+optimal_pair net x u good conserved on_curves =
+    let same = optimal-equal net («at» x) («at» u) good conserved on_curves in
     record {
       equal = same;
-      least = λ q p q_pos flow. rw same (value_below whole_tension equality net («at» x) («at» u) q («at» p) q_pos good on_curves flow.conserved flow.in_domains);
-      greatest = λ q w q_pos potential. rw (← same) (cost_above whole_flow net («at» x) («at» u) q («at» w) q_pos good on_curves conserved potential.in_spans);
+      least = λ q p q_pos flow. rw same (value_below net («at» x) («at» u) q («at» p) q_pos good on_curves flow.conserved flow.in_domains);
+      greatest = λ q w q_pos potential. rw (← same) (cost_above net («at» x) («at» u) q («at» w) q_pos good on_curves conserved potential.in_spans);
     }

@@ -112,8 +112,8 @@ pub over_arcs-grounded : (m : Entries) (f : ℕ → ℤ)
     → over_arcs (grounded m) f ≡ sum_below (length m.nodes) f +ℤ sum_below (length m.arcs) (λ k. f (length m.nodes + k))
 over_arcs-grounded m f = rw (length-grounded_arcs m) (sum_below-split (length m.nodes) (length m.arcs) f)
 
-pub grounded_law : GroundedLaw
-grounded_law m model =
+pub grounded_is_network : GroundedLaw
+grounded_is_network m model =
     let no_node : NodeEntry = record { name = []; supply = record { items = []; base = pos 0 } } in
     let no_arc : ArcEntry = record { name = []; from = 0; to = 0; curve = record { items = []; base = pos 0 } } in
     record {
