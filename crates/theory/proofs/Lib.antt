@@ -3,6 +3,7 @@ pub mod Rings
 pub mod Sums
 pub mod SumsBelow
 -- Curve lists:
+pub mod Ends
 pub mod Shape
 pub mod Clip
 -- Laws of curves:
@@ -10,9 +11,15 @@ pub mod Scaling
 pub mod Pairs
 pub mod Fenchel
 pub mod Equality
+pub mod Whole
 -- Networks:
 pub mod SumLaw
 pub mod Duality
 pub mod Refusals
 pub mod Certificates
 pub mod GroundedLaw
+-- Derived curves:
+pub mod ReversedList
+pub mod ZeroCost
+pub mod ConjugateList
+pub mod ReversedCost
