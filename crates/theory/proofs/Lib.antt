@@ -3,6 +3,7 @@ pub mod Rings
 pub mod Sums
 pub mod SumsBelow
 -- Curve lists:
+pub mod Ends
 pub mod Shape
 pub mod Clip
 -- Laws of curves:
@@ -10,7 +11,13 @@ pub mod Scaling
 pub mod Pairs
 pub mod Fenchel
 pub mod Equality
--- Networks:
+pub mod Whole
+-- Derived curves:
+pub mod ReversedList
+pub mod ZeroCost
+pub mod ConjugateList
+pub mod ReversedCost
+-- Networks and certificates:
 pub mod SumLaw
 pub mod Duality
 pub mod Refusals

@@ -35,6 +35,9 @@ later_places p s items places =
 pub less_of : (a b : ℤ) → IsBelow (At a) (At b) → a <ℤ b
 less_of a b h = omega (arith, ints)
 
+pub less_in : (a b : ℤ) → a <ℤ b → IsBelow (At a) (At b)
+less_in a b h = sym (omega (arith, ints))
+
 rest_by_place : (s : ℤ) (m : Ext) (rest : List Ext) → length rest % 2 ≡ 0 → Places (At s ∷ m ∷ rest) → Rest s m rest
 rest_by_place s m [] even places = ends
 rest_by_place s m (t ∷ []) even places = absurd (omega arith)
@@ -70,9 +73,6 @@ shape_by_place (l ∷ At s ∷ m ∷ rest) list =
     (rest_by_place s m rest (omega (arith, list.odd)) (inner_places l (At s) m rest list))
 
 -- ---- from recursion to places
-
-less_in : (a b : ℤ) → a <ℤ b → IsBelow (At a) (At b)
-less_in a b h = sym (omega (arith, ints))
 
 pub rest_even : {s : ℤ} {m : Ext} {rest : List Ext} → Rest s m rest → length rest % 2 ≡ 0
 rest_even ends = refl

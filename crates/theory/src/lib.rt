@@ -8,6 +8,7 @@ pub mod curve_laws;
 mod ext;
 mod network;
 pub mod network_laws;
+pub mod view_laws;
 
 pub use colour::Colour;
 pub use ext::Ext;
