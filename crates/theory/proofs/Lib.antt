@@ -12,14 +12,14 @@ pub mod Pairs
 pub mod Fenchel
 pub mod Equality
 pub mod Whole
--- Networks:
-pub mod SumLaw
-pub mod Duality
-pub mod Refusals
-pub mod Certificates
-pub mod GroundedLaw
 -- Derived curves:
 pub mod ReversedList
 pub mod ZeroCost
 pub mod ConjugateList
 pub mod ReversedCost
+-- Networks and certificates:
+pub mod SumLaw
+pub mod Duality
+pub mod Refusals
+pub mod Certificates
+pub mod GroundedLaw
