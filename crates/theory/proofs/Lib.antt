@@ -14,9 +14,11 @@ pub mod Equality
 pub mod Whole
 -- Derived curves:
 pub mod ReversedList
+pub mod ReversedCost
 pub mod ZeroCost
 pub mod ConjugateList
-pub mod ReversedCost
+pub mod Rounding
+pub mod Level
 -- Networks and certificates:
 pub mod SumLaw
 pub mod Duality
