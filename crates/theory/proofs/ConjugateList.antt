@@ -19,7 +19,7 @@ use Rattle.theory.proofs.Shape.{Rest, ends, goes_on, Shape, single, long, shape_
 
 -- ---- it is a curve list
 
-rest_turned : {s : ℤ} {m : Ext} {rest : List Ext} (a : ℤ) → IsBelow (At a) m → Rest s m rest → Rest a (At s) (turned_back (m ∷ rest))
+pub rest_turned : {s : ℤ} {m : Ext} {rest : List Ext} (a : ℤ) → IsBelow (At a) m → Rest s m rest → Rest a (At s) (turned_back (m ∷ rest))
 rest_turned {m = MinusInf} a below ends = let h : false ≡ true = below in cc
 rest_turned {m = At b} a below ends = goes_on (less_of a b below) refl ends
 rest_turned {m = PlusInf} a below ends = ends

@@ -13,8 +13,10 @@ pub mod Equality
 pub mod Whole
 -- Derived curves:
 pub mod ReversedList
-pub mod ZeroCost
-pub mod ConjugateList
 pub mod ReversedCost
+pub mod ConjugateList
+pub mod Parts
+pub mod ConjugateCost
+pub mod ZeroCost
 pub mod Rounding
 pub mod Level
