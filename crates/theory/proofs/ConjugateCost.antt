@@ -15,7 +15,7 @@ use Rattle.theory.specs.Cost.{rise, cost}
 use Rattle.theory.specs.ConjugateCost.{conjugate_cost}
 use Rattle.theory.specs.Views.{conjugate_items, conjugate_of}
 use Rattle.theory.specs.ViewLaws.{ConjugateCostLaw, ConjugateTwiceLaw}
-use Rattle.theory.proofs.Rings.{rings, scale_cancel_equal}
+use Rattle.theory.proofs.Rings.{rings, one_times, scale_cancel_equal}
 use Rattle.theory.proofs.Shape.{shape_by_place}
 use Rattle.theory.proofs.Scaling.{conjugate_cost-scale}
 use Rattle.theory.proofs.Pairs.{flow_of, tension_of_flow}
@@ -93,9 +93,6 @@ pub cost-conjugate : ConjugateCostLaw
 cost-conjugate q c w positive list in_w = cost_of_conjugate q c w positive list in_w
 
 -- ---- the conjugate of the conjugate
-
-one_times : (x : ℤ) → pos 1 *ℤ x ≡ x
-one_times x = omega (arith, ints)
 
 -- the cost where the curve rests
 pub cost-at_rest : (c : Listing) → cost 1 c (rest_point c.items) ≡ c.base

@@ -15,6 +15,7 @@ use Rattle.theory.specs.CurveList.{IsCurveList, pieces, last, before_last}
 use Rattle.theory.specs.OnCurve.{FitsPiece, IsOnCurve}
 use Rattle.theory.specs.Views.{turned_back, conjugate_items}
 use Rattle.theory.specs.ViewLaws.{IsConjugate, ConjugateLaw, ConjugatePairLaw}
+use Rattle.theory.proofs.Ends.{nothing_below}
 use Rattle.theory.proofs.Shape.{Rest, ends, goes_on, Shape, single, long, shape_by_place, place_of_shape, less_of, less_in}
 
 -- ---- it is a curve list
@@ -42,18 +43,14 @@ shape-conjugate (long {l = PlusInf} below more) = let h : false ≡ true = below
 
 last_turned : {s : ℤ} {m : Ext} {rest : List Ext} (l : Ext) → IsBelow l m → Rest s m rest
     → last (At s ∷ turned_back (m ∷ rest)) ≡ (if is_finite (last (m ∷ rest)) then PlusInf else before_last (At s ∷ m ∷ rest))
-last_turned {m = MinusInf} MinusInf below ends = let h : false ≡ true = below in cc
-last_turned {m = MinusInf} (At a) below ends = let h : false ≡ true = below in cc
-last_turned {m = MinusInf} PlusInf below ends = let h : false ≡ true = below in cc
+last_turned {m = MinusInf} l below ends = absurd (nothing_below l below)
 last_turned {m = At b} l below ends = refl
 last_turned {m = PlusInf} l below ends = refl
 last_turned l below (goes_on {b = b} rises next more) = last_turned (At b) next more
 
 before_last_turned : {s : ℤ} {m : Ext} {rest : List Ext} (x l : Ext) → IsBelow l m → Rest s m rest
     → (if is_finite (last (At s ∷ turned_back (m ∷ rest))) then PlusInf else before_last (x ∷ At s ∷ turned_back (m ∷ rest))) ≡ last (m ∷ rest)
-before_last_turned {m = MinusInf} x MinusInf below ends = let h : false ≡ true = below in cc
-before_last_turned {m = MinusInf} x (At a) below ends = let h : false ≡ true = below in cc
-before_last_turned {m = MinusInf} x PlusInf below ends = let h : false ≡ true = below in cc
+before_last_turned {m = MinusInf} x l below ends = absurd (nothing_below l below)
 before_last_turned {m = At b} x l below ends = refl
 before_last_turned {m = PlusInf} x l below ends = refl
 before_last_turned x l below (goes_on {b = b} rises next more) = before_last_turned (At b) (At b) next more
@@ -92,9 +89,7 @@ conjugate-is_list items list = conjugate_of_shape (shape_by_place items list)
 -- ---- the conjugate of the conjugate
 
 turned-twice : {s : ℤ} {m : Ext} {rest : List Ext} (l : Ext) → IsBelow l m → Rest s m rest → turned_back (At s ∷ turned_back (m ∷ rest)) ≡ At s ∷ m ∷ rest
-turned-twice {m = MinusInf} MinusInf below ends = let h : false ≡ true = below in cc
-turned-twice {m = MinusInf} (At a) below ends = let h : false ≡ true = below in cc
-turned-twice {m = MinusInf} PlusInf below ends = let h : false ≡ true = below in cc
+turned-twice {m = MinusInf} l below ends = absurd (nothing_below l below)
 turned-twice {m = At b} l below ends = refl
 turned-twice {m = PlusInf} l below ends = refl
 turned-twice l below (goes_on {s = s} {b = b} rises next more) = ap (λ items. At s ∷ At b ∷ items) (turned-twice (At b) next more)
@@ -125,9 +120,7 @@ unless : (a b c d : ℤ) → (a <ℤ b → c ≤ℤ d) → d <ℤ c → b ≤ℤ
 unless a b c d h less = by_lt_z a b (λ l. let m = h l in absurd (omega (arith, ints))) (λ l. l)
 
 pair_turned : (q : ℕ) (x v : ℤ) {s : ℤ} {m : Ext} {rest : List Ext} (l : Ext) → IsBelow l m → Rest s m rest → Behind q x v s m rest → Turned q x v s m rest
-pair_turned q x v {m = MinusInf} MinusInf below ends behind = let h : false ≡ true = below in cc
-pair_turned q x v {m = MinusInf} (At a) below ends behind = let h : false ≡ true = below in cc
-pair_turned q x v {m = MinusInf} PlusInf below ends behind = let h : false ≡ true = below in cc
+pair_turned q x v {m = MinusInf} l below ends behind = absurd (nothing_below l below)
 pair_turned q x v {s = s} {m = At b} l below ends behind =
     record {
       most = tt;

@@ -19,10 +19,10 @@ use Rattle.theory.specs.Sums.{sum_over, Each}
 use Rattle.theory.specs.Cost.{rise}
 use Rattle.theory.specs.OnCurve.{IsOnCurve, FitsPiece}
 use Rattle.theory.specs.Views.{turned_back, conjugate_items}
-use Rattle.theory.proofs.Rings.{rings, scale_mono, scale_strict}
+use Rattle.theory.proofs.Rings.{rings, scale_strict}
 use Rattle.theory.proofs.Sums.{sum_over-add, sum_over-scale}
 use Rattle.theory.proofs.Shape.{Rest, ends, goes_on, Shape, single, long, less_in}
-use Rattle.theory.proofs.Clip.{clip_same}
+use Rattle.theory.proofs.Clip.{clip_same, clip_low, clip_high}
 use Rattle.theory.proofs.Pairs.{most_after}
 use Rattle.theory.proofs.ConjugateList.{rest_turned}
 
@@ -43,17 +43,7 @@ rises_by_parts q y x ks =
     let scaled = sum_over-scale (pos q) (λ k. pos q *ℤ rise q y x k) (rise q y x) ks (λ k. refl) in
     rw (← scaled) sum
 
--- ---- moves into a range
-
-clip_low : (q : ℕ) (b : ℤ) (r : Ext) (x : ℤ) → IsBelow (At b) r → x ≤ℤ (pos q *ℤ b) → clip q (At b) r x ≡ pos q *ℤ b
-clip_low q b MinusInf x below most = omega (arith, ints, clamps)
-clip_low q b (At c) x below most = let m = scale_mono q b c (omega (arith, ints)) in omega (arith, ints, clamps)
-clip_low q b PlusInf x below most = omega (arith, ints, clamps)
-
-clip_high : (q : ℕ) (l : Ext) (d x : ℤ) → IsBelow l (At d) → (pos q *ℤ d) ≤ℤ x → clip q l (At d) x ≡ pos q *ℤ d
-clip_high q MinusInf d x below least = omega (arith, ints, clamps)
-clip_high q (At a) d x below least = let m = scale_mono q a d (omega (arith, ints)) in omega (arith, ints, clamps)
-clip_high q PlusInf d x below least = omega (arith, ints, clamps)
+-- ---- the order of ends
 
 before_most : (q : ℕ) (r : Ext) (x : ℤ) → IsBefore q r x → IsAtMost q r x
 before_most q MinusInf x before = tt

@@ -4,13 +4,13 @@
 -- adds to the cost at -x what the piece adds at x, and the rest points are opposite too: the costs are the same sum.
 -- The listed points are the opposites of those of the list, from the back; each takes part in the greatest with the
 -- same value, and the greatest doesn't mind the order.
-use Rattle.std.proofs.Common.{◌≡◌, ℕ, ◌<◌, ℤ, pos, ◌+ℤ◌, ◌-ℤ◌, ◌*ℤ◌, neg_ℤ, true, false, List, [], ◌∷◌, ◌++◌, map, reverse, length, refl, sym, ap, ap₂, ◌∙◌, arith}
+use Rattle.std.proofs.Common.{◌≡◌, ℕ, ◌<◌, ℤ, pos, ◌+ℤ◌, ◌-ℤ◌, ◌*ℤ◌, neg_ℤ, false, List, [], ◌∷◌, ◌++◌, map, reverse, length, refl, sym, ap, ◌∙◌, arith}
 use Rattle.std.specs.Int.{int_max}
 use Rattle.std.proofs.lemmas.Int.{ints, clamps}
 use Rattle.std.proofs.lemmas.List.{reverse-append, append_assoc, append-nil, length-reverse, length-map}
 use Rattle.theory.specs.declared.ext.Ext.{Ext}
 use Rattle.theory.specs.declared.ext.Ext.TheVariants.{MinusInf, At, PlusInf}
-use Rattle.theory.specs.Sums.{sum_over, greatest_over, Each}
+use Rattle.theory.specs.Sums.{sum_over, greatest_over}
 use Rattle.theory.specs.Ends.{IsBelow, is_below, negated}
 use Rattle.theory.specs.CurveList.{IsCurveList, Listing, Piece, pieces, first, last}
 use Rattle.theory.specs.Domain.{clip, rest_point}
@@ -19,7 +19,9 @@ use Rattle.theory.specs.ConjugateCost.{with_finite, finite_points, or_one, liste
 use Rattle.theory.specs.Views.{reversed_items, reversed_of}
 use Rattle.theory.specs.ViewLaws.{ReversedCostLaw, ReversedConjugateCostLaw}
 use Rattle.theory.proofs.Rings.{rings, scale_mono}
-use Rattle.theory.proofs.Shape.{Rest, ends, goes_on, Shape, single, long, shape_by_place}
+use Rattle.theory.proofs.Sums.{sum_over-each, greatest_over-same}
+use Rattle.theory.proofs.Ends.{not_above}
+use Rattle.theory.proofs.Shape.{Rest, ends, goes_on, Shape, single, long, shape_by_place, pieces_below}
 use Rattle.theory.proofs.ReversedList.{reversed-more}
 use Rattle.theory.proofs.ZeroCost.{below_last}
 
@@ -104,15 +106,6 @@ sum_over-reversed f (longer {p = p} {r = r} {s = s} {rest = rest} more) =
 
 -- ---- the cost
 
-not_above : (l r : Ext) → IsBelow l r → is_below r l ≡ false
-not_above MinusInf MinusInf h = refl
-not_above MinusInf (At b) h = refl
-not_above MinusInf PlusInf h = refl
-not_above (At a) MinusInf h = let f : false ≡ true = h in cc
-not_above (At a) (At b) h = sym (omega (arith, ints))
-not_above (At a) PlusInf h = refl
-not_above PlusInf r h = let f : false ≡ true = h in cc
-
 not_above_itself : (p : ℤ) → is_below (At p) (At p) ≡ false
 not_above_itself p = sym (omega (arith, ints))
 
@@ -131,28 +124,15 @@ clip-turned q PlusInf PlusInf x h = refl
 turned_product : (s a b c d : ℤ) → c ≡ neg_ℤ a → d ≡ neg_ℤ b → neg_ℤ s *ℤ (c -ℤ d) ≡ s *ℤ (a -ℤ b)
 turned_product s a b c d e f = rw (e, f) (omega (arith, rings))
 
-rise-turned : (q : ℕ) (y x : ℤ) (k : Piece) → is_below k.right k.left ≡ false → rise q (neg_ℤ y) (neg_ℤ x) (turned k) ≡ rise q y x k
-rise-turned q y x k h = turned_product k.slope _ _ _ _ (clip-turned q k.left k.right x h) (clip-turned q k.left k.right y h)
-
-abbrev IsOrdered : Piece → Type 0
-IsOrdered k = is_below k.right k.left ≡ false
-
-ordered_rest : {s : ℤ} {m : Ext} {rest : List Ext} → Rest s m rest → Each IsOrdered (pieces (m ∷ rest))
-ordered_rest ends = tt
-ordered_rest (goes_on {b = b} {r = r} rises below more) = (not_above (At b) r below, ordered_rest more)
-
-ordered : {items : List Ext} → Shape items → Each IsOrdered (pieces items)
-ordered single = tt
-ordered (long {l = l} {m = m} below more) = (not_above l m below, ordered_rest more)
+rise-turned : (q : ℕ) (y x : ℤ) (k : Piece) → IsBelow k.left k.right → rise q (neg_ℤ y) (neg_ℤ x) (turned k) ≡ rise q y x k
+rise-turned q y x k below =
+    let order = not_above k.left k.right below in
+    turned_product k.slope _ _ _ _ (clip-turned q k.left k.right x order) (clip-turned q k.left k.right y order)
 
 -- the domain's ends are in order
 ordered_ends : {items : List Ext} → Shape items → is_below (last items) (first items) ≡ false
 ordered_ends (single {p = p}) = not_above_itself p
 ordered_ends (long {l = l} {m = m} {rest = rest} below more) = not_above l (last (m ∷ rest)) (below_last l below more)
-
-sum_over-each : {A : Type 0} (P : A → Type 0) (f g : A → ℤ) (xs : List A) → Each P xs → ((x : A) → P x → f x ≡ g x) → sum_over f xs ≡ sum_over g xs
-sum_over-each P f g [] each same = refl
-sum_over-each P f g (x ∷ xs) each same = let e = same x each.0 in let more = sum_over-each P f g xs each.1 same in omega (arith, ints)
 
 rest_point-reversed : {items : List Ext} → Shape items → rest_point (reversed_items items) ≡ neg_ℤ (rest_point items)
 rest_point-reversed {items = items} shape =
@@ -165,7 +145,7 @@ cost_of_shape : (q : ℕ) (c : Listing) (x : ℤ) → Shape c.items → cost q (
 cost_of_shape q c x shape =
     let at_rest = neg_product q (rest_point (reversed_items c.items)) (rest_point c.items) (rest_point-reversed shape) in
     let turn = sum_over-reversed (rise q (neg_ℤ (pos q *ℤ rest_point c.items)) (neg_ℤ x)) (alternating shape) in
-    let same = sum_over-each IsOrdered (λ k. rise q (neg_ℤ (pos q *ℤ rest_point c.items)) (neg_ℤ x) (turned k)) (rise q (pos q *ℤ rest_point c.items) x) (pieces c.items) (ordered shape) (rise-turned q (pos q *ℤ rest_point c.items) x) in
+    let same = sum_over-each (λ k. IsBelow k.left k.right) (λ k. rise q (neg_ℤ (pos q *ℤ rest_point c.items)) (neg_ℤ x) (turned k)) (rise q (pos q *ℤ rest_point c.items) x) (pieces c.items) (pieces_below shape) (rise-turned q (pos q *ℤ rest_point c.items) x) in
     rw at_rest (ap (λ z. pos q *ℤ c.base +ℤ z) (turn ∙ same))
 
 pub cost-reversed : ReversedCostLaw
@@ -228,15 +208,10 @@ greatest-opposites f a (b ∷ xs) =
     swapped : (k l : ℤ) → int_max k l ≡ int_max l k
     swapped k l = omega (arith, ints, clamps)
 
-greatest-same : (f g : ℤ → ℤ) (xs : List ℤ) → ((x : ℤ) → f x ≡ g x) → greatest_over f xs ≡ greatest_over g xs
-greatest-same f g [] same = refl
-greatest-same f g (x ∷ []) same = same x
-greatest-same f g (x ∷ y ∷ ys) same = ap₂ int_max (same x) (greatest-same f g (y ∷ ys) same)
-
 greatest-listed : (f g : ℤ → ℤ) (points : List ℤ) (r : ℤ) → ((x : ℤ) → f (neg_ℤ x) ≡ g x) → greatest_over f (or_one (opposites points) (neg_ℤ r)) ≡ greatest_over g (or_one points r)
 greatest-listed f g [] r same = same r
 greatest-listed f g (a ∷ points) r same =
-    ap (greatest_over f) (kept (opposites (a ∷ points)) (neg_ℤ r) (omega (arith, length-reverse (map neg_ℤ (a ∷ points))))) ∙ greatest-opposites f a points ∙ greatest-same (λ x. f (neg_ℤ x)) g (a ∷ points) same
+    ap (greatest_over f) (kept (opposites (a ∷ points)) (neg_ℤ r) (omega (arith, length-reverse (map neg_ℤ (a ∷ points))))) ∙ greatest-opposites f a points ∙ greatest_over-same (λ x. f (neg_ℤ x)) g (a ∷ points) same
   where
     kept : (xs : List ℤ) (x : ℤ) → 0 < length xs → or_one xs x ≡ xs
     kept [] x h = absurd (omega arith)

@@ -7,7 +7,8 @@ use Rattle.std.proofs.lemmas.Int.{ints}
 use Rattle.theory.specs.declared.ext.Ext.{Ext}
 use Rattle.theory.specs.declared.ext.Ext.TheVariants.{MinusInf, At, PlusInf}
 use Rattle.theory.specs.Ends.{IsFinite, IsBelow}
-use Rattle.theory.specs.CurveList.{IsCurveList, item}
+use Rattle.theory.specs.Sums.{Each}
+use Rattle.theory.specs.CurveList.{IsCurveList, pieces, item}
 
 -- what may follow the slope s and the point m
 pub data Rest : ℤ → Ext → List Ext → Type 0 where
@@ -114,3 +115,15 @@ place_of_shape (long {l = l} {m = m} {s = s} {rest = rest} below more) =
       inner_finite = long_finite l m s rest more;
       single_finite = λ h. absurd (omega arith);
     }
+
+-- ---- the pieces
+
+-- each piece begins below its end
+pieces_below_rest : (l : Ext) {s : ℤ} {m : Ext} {rest : List Ext} → IsBelow l m → Rest s m rest
+    → Each (λ k. IsBelow k.left k.right) (pieces (l ∷ At s ∷ m ∷ rest))
+pieces_below_rest l below ends = (below, tt)
+pieces_below_rest l below (goes_on {b = b} rises next more) = (below, pieces_below_rest (At b) next more)
+
+pub pieces_below : {items : List Ext} → Shape items → Each (λ k. IsBelow k.left k.right) (pieces items)
+pieces_below single = tt
+pieces_below (long {l = l} below more) = pieces_below_rest l below more
