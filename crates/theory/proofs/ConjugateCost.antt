@@ -45,7 +45,8 @@ distribute q a b c e = rw e (omega (arith, rings))
 
 -- at two pairs with the products xw and yv: f and g are the costs, h and k the conjugate costs, F and G the rises, q times
 -- each, and A, B and A', B' the parts of the list and of the conjugate list
-from_parts : (xw yv f g h k F G A B A' B' : ℤ) → f +ℤ h ≡ xw → g +ℤ k ≡ yv → f ≡ g +ℤ F → A +ℤ B ≡ xw → A' +ℤ B' ≡ yv → A ≡ F +ℤ A' → B ≡ G +ℤ B' → k +ℤ G ≡ h
+from_parts : (xw yv f g h k F G A B A' B' : ℤ) → f +ℤ h ≡ xw → g +ℤ k ≡ yv → f ≡ g +ℤ F → A +ℤ B ≡ xw → A' +ℤ B' ≡ yv
+    → A ≡ F +ℤ A' → B ≡ G +ℤ B' → k +ℤ G ≡ h
 from_parts xw yv f g h k F G A B A' B' e e' r p p' s t = omega (arith, ints)
 
 module _ (q : ℕ) (c : Listing) (w : ℤ) (positive : 1 ≤ q) (list : IsCurveList c.items) (in_w : InSpan q c.items w) where

@@ -20,7 +20,8 @@ use Rattle.theory.proofs.Shape.{Rest, ends, goes_on, Shape, single, long, shape_
 
 -- ---- it is a curve list
 
-pub rest_turned : {s : ℤ} {m : Ext} {rest : List Ext} (a : ℤ) → IsBelow (At a) m → Rest s m rest → Rest a (At s) (turned_back (m ∷ rest))
+pub rest_turned : {s : ℤ} {m : Ext} {rest : List Ext} (a : ℤ) → IsBelow (At a) m → Rest s m rest
+    → Rest a (At s) (turned_back (m ∷ rest))
 rest_turned {m = MinusInf} a below ends = let h : false ≡ true = below in cc
 rest_turned {m = At b} a below ends = goes_on (less_of a b below) refl ends
 rest_turned {m = PlusInf} a below ends = ends
@@ -88,7 +89,8 @@ conjugate-is_list items list = conjugate_of_shape (shape_by_place items list)
 
 -- ---- the conjugate of the conjugate
 
-turned-twice : {s : ℤ} {m : Ext} {rest : List Ext} (l : Ext) → IsBelow l m → Rest s m rest → turned_back (At s ∷ turned_back (m ∷ rest)) ≡ At s ∷ m ∷ rest
+turned-twice : {s : ℤ} {m : Ext} {rest : List Ext} (l : Ext) → IsBelow l m → Rest s m rest
+    → turned_back (At s ∷ turned_back (m ∷ rest)) ≡ At s ∷ m ∷ rest
 turned-twice {m = MinusInf} l below ends = absurd (nothing_below l below)
 turned-twice {m = At b} l below ends = refl
 turned-twice {m = PlusInf} l below ends = refl
@@ -119,7 +121,8 @@ record Turned (q : ℕ) (x v s : ℤ) (m : Ext) (rest : List Ext) : Type 0 where
 unless : (a b c d : ℤ) → (a <ℤ b → c ≤ℤ d) → d <ℤ c → b ≤ℤ a
 unless a b c d h less = by_lt_z a b (λ l. let m = h l in absurd (omega (arith, ints))) (λ l. l)
 
-pair_turned : (q : ℕ) (x v : ℤ) {s : ℤ} {m : Ext} {rest : List Ext} (l : Ext) → IsBelow l m → Rest s m rest → Behind q x v s m rest → Turned q x v s m rest
+pair_turned : (q : ℕ) (x v : ℤ) {s : ℤ} {m : Ext} {rest : List Ext} (l : Ext) → IsBelow l m → Rest s m rest
+    → Behind q x v s m rest → Turned q x v s m rest
 pair_turned q x v {m = MinusInf} l below ends behind = absurd (nothing_below l below)
 pair_turned q x v {s = s} {m = At b} l below ends behind =
     record {
@@ -141,7 +144,8 @@ pair_turned q x v l below (goes_on {s = s} {t = t} {b = b} {r = r} rises next mo
       );
     }
 
-pair_of_shape : (q : ℕ) (x v : ℤ) {items : List Ext} → Shape items → IsOnCurve q items x v → IsOnCurve q (conjugate_items items) v x
+pair_of_shape : (q : ℕ) (x v : ℤ) {items : List Ext} → Shape items → IsOnCurve q items x v
+    → IsOnCurve q (conjugate_items items) v x
 pair_of_shape q x v single pair =
     record {
       in_domain = record { least = tt; most = tt };

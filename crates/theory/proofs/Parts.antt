@@ -39,7 +39,8 @@ split_part q s a b c = spread q s (a -ℤ b) (b -ℤ c) (a -ℤ c) (omega (arith
 -- the rise between two flows is the difference of their parts
 pub rises_by_parts : (q : ℕ) (y x : ℤ) (ks : List Piece) → sum_over (part q x) ks ≡ pos q *ℤ sum_over (rise q y x) ks +ℤ sum_over (part q y) ks
 rises_by_parts q y x ks =
-    let sum = sum_over-add (part q x) (λ k. pos q *ℤ rise q y x k) (part q y) ks (λ k. split_part (pos q) k.slope (clip q k.left k.right x) (clip q k.left k.right y) (pos q *ℤ whole k.left)) in
+    let split = λ (k : Piece). split_part (pos q) k.slope (clip q k.left k.right x) (clip q k.left k.right y) (pos q *ℤ whole k.left) in
+    let sum = sum_over-add (part q x) (λ k. pos q *ℤ rise q y x k) (part q y) ks split in
     let scaled = sum_over-scale (pos q) (λ k. pos q *ℤ rise q y x k) (rise q y x) ks (λ k. refl) in
     rw (← scaled) sum
 
@@ -67,7 +68,8 @@ nothing : (t c b p : ℤ) → c ≡ b → p ≡ pos 0 → t *ℤ (c -ℤ b) +ℤ
 nothing t c b p e f = rw (e, f) (omega (arith, rings))
 
 -- no part from a point on that is not passed
-none : (q : ℕ) (x : ℤ) {s : ℤ} {m : Ext} {rest : List Ext} → Rest s m rest → IsAtMost q m x → sum_over (part q x) (pieces (m ∷ rest)) ≡ pos 0
+none : (q : ℕ) (x : ℤ) {s : ℤ} {m : Ext} {rest : List Ext} → Rest s m rest → IsAtMost q m x
+    → sum_over (part q x) (pieces (m ∷ rest)) ≡ pos 0
 none q x ends most = refl
 none q x (goes_on {t = t} {b = b} {r = r} {rest = rest} rises below more) most =
     nothing
@@ -79,19 +81,23 @@ none q x (goes_on {t = t} {b = b} {r = r} {rest = rest} rises below more) most =
     (none q x more (most_after q b r x below most))
 
 -- in the conjugate list of one that begins at minus infinity
-none_turned : (q : ℕ) (w : ℤ) {s : ℤ} {m : Ext} {rest : List Ext} → IsBelow MinusInf m → Rest s m rest → w ≤ℤ (pos q *ℤ s) → sum_over (part q w) (pieces (At s ∷ turned_back (m ∷ rest))) ≡ pos 0
+none_turned : (q : ℕ) (w : ℤ) {s : ℤ} {m : Ext} {rest : List Ext} → IsBelow MinusInf m → Rest s m rest → w ≤ℤ (pos q *ℤ s)
+    → sum_over (part q w) (pieces (At s ∷ turned_back (m ∷ rest))) ≡ pos 0
 none_turned q w {m = MinusInf} below more flat = let h : false ≡ true = below in cc
 none_turned q w {m = At b} below more flat = none q w (rest_turned (b -ℤ pos 1) (less_in (b -ℤ pos 1) b (omega (arith, ints))) more) flat
 none_turned q w {m = PlusInf} below more flat = none q w (rest_turned (pos 0) refl more) flat
 
 -- at the point b, in the piece of slope t, past the next point d
-stays : (b u t x w c e p z : ℤ) → c ≡ b → e ≡ w → p ≡ pos 0 → z ≡ pos 0 → x ≡ b → t *ℤ (c -ℤ b) +ℤ p +ℤ (b *ℤ (e -ℤ u) +ℤ z) +ℤ b *ℤ u ≡ x *ℤ w
+stays : (b u t x w c e p z : ℤ) → c ≡ b → e ≡ w → p ≡ pos 0 → z ≡ pos 0 → x ≡ b
+    → t *ℤ (c -ℤ b) +ℤ p +ℤ (b *ℤ (e -ℤ u) +ℤ z) +ℤ b *ℤ u ≡ x *ℤ w
 stays b u t x w c e p z f g h i j = rw (f, g, h, i, j) (omega (arith, rings))
 
-within : (b u t x w c e p z : ℤ) → c ≡ x → e ≡ t → p ≡ pos 0 → z ≡ pos 0 → w ≡ t → t *ℤ (c -ℤ b) +ℤ p +ℤ (b *ℤ (e -ℤ u) +ℤ z) +ℤ b *ℤ u ≡ x *ℤ w
+within : (b u t x w c e p z : ℤ) → c ≡ x → e ≡ t → p ≡ pos 0 → z ≡ pos 0 → w ≡ t
+    → t *ℤ (c -ℤ b) +ℤ p +ℤ (b *ℤ (e -ℤ u) +ℤ z) +ℤ b *ℤ u ≡ x *ℤ w
 within b u t x w c e p z f g h i j = rw (f, g, h, i, j) (omega (arith, rings))
 
-passes : (b u t x w c e p z d : ℤ) → c ≡ d → e ≡ t → p +ℤ z +ℤ d *ℤ t ≡ x *ℤ w → t *ℤ (c -ℤ b) +ℤ p +ℤ (b *ℤ (e -ℤ u) +ℤ z) +ℤ b *ℤ u ≡ x *ℤ w
+passes : (b u t x w c e p z d : ℤ) → c ≡ d → e ≡ t → p +ℤ z +ℤ d *ℤ t ≡ x *ℤ w
+    → t *ℤ (c -ℤ b) +ℤ p +ℤ (b *ℤ (e -ℤ u) +ℤ z) +ℤ b *ℤ u ≡ x *ℤ w
 passes b u t x w c e p z d f g h = rw (f, g) (omega (arith, rings))
 
 -- what the corner (d, t) leaves, where it is passed
@@ -176,7 +182,8 @@ module _ (q : ℕ) (x w : ℤ) (positive : 1 ≤ q) where
       plain : (b s x w c : ℤ) → c ≡ w → x ≡ b → pos 0 +ℤ (b *ℤ (c -ℤ s) +ℤ pos 0) +ℤ b *ℤ s ≡ x *ℤ w
       plain b s x w c e f = rw (e, f) (omega (arith, rings))
 
-  corner : {s : ℤ} {m : Ext} {rest : List Ext} → Rest s m rest → IsAtMost q (last (m ∷ rest)) x → Each (FitsPiece q x w) (pieces (m ∷ rest)) → LeftOver q x w s m rest
+  corner : {s : ℤ} {m : Ext} {rest : List Ext} → Rest s m rest → IsAtMost q (last (m ∷ rest)) x
+      → Each (FitsPiece q x w) (pieces (m ∷ rest)) → LeftOver q x w s m rest
   corner (ends {m = MinusInf}) most fits d same begun steep = cc
   corner (ends {s = s} {m = At b}) most fits d same begun steep = let e : b ≡ d = cc in rw (← e) (last_corner b s steep (rw (← e) at begun) most)
   corner (ends {m = PlusInf}) most fits d same begun steep = cc
@@ -187,7 +194,8 @@ module _ (q : ℕ) (x w : ℤ) (positive : 1 ≤ q) where
   no_beginning : (a z : ℤ) → z +ℤ a *ℤ (pos q *ℤ pos 0) ≡ x *ℤ w → z ≡ x *ℤ w
   no_beginning a z e = let f : a *ℤ (pos q *ℤ pos 0) ≡ pos 0 = omega (arith, rings) in omega (arith, ints)
 
-  pub parts : {items : List Ext} → Shape items → IsOnCurve q items x w → sum_over (part q x) (pieces items) +ℤ sum_over (part q w) (pieces (conjugate_items items)) ≡ x *ℤ w
+  pub parts : {items : List Ext} → Shape items → IsOnCurve q items x w
+      → sum_over (part q x) (pieces items) +ℤ sum_over (part q w) (pieces (conjugate_items items)) ≡ x *ℤ w
   parts (single {p = p}) pair = plain (pos q *ℤ p) (omega (arith, ints, pair.in_domain))
     where
       plain : (b : ℤ) → x ≡ b → pos 0 +ℤ (b *ℤ (w -ℤ pos q *ℤ pos 0) +ℤ pos 0) ≡ x *ℤ w

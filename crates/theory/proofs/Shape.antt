@@ -56,7 +56,10 @@ rest_by_place s (At b) (At t ∷ r ∷ rest) even places =
 inner_places : (l s m : Ext) (rest : List Ext) → IsCurveList (l ∷ s ∷ m ∷ rest) → Places (s ∷ m ∷ rest)
 inner_places l s m rest list =
     record {
-      rises = λ k h. (let fits : suc k + 2 < length (l ∷ s ∷ m ∷ rest) = omega arith in let e : suc k + 2 ≡ suc (suc (suc k)) = omega arith in rw e at (list.rises (suc k) fits));
+      rises = λ k h. (
+        let within : suc k + 2 < length (l ∷ s ∷ m ∷ rest) = omega arith in
+        let e : suc k + 2 ≡ suc (suc (suc k)) = omega arith in
+        rw e at (list.rises (suc k) within));
       finite = λ k h. list.inner_finite (suc k) (omega arith) (omega arith);
     }
 
@@ -79,24 +82,28 @@ pub rest_even : {s : ℤ} {m : Ext} {rest : List Ext} → Rest s m rest → leng
 rest_even ends = refl
 rest_even (goes_on rises below more) = omega (arith, rest_even more)
 
-rest_rises : {s : ℤ} {m : Ext} {rest : List Ext} → Rest s m rest → (k : ℕ) → k < length rest → IsBelow (item (At s ∷ m ∷ rest) k) (item rest k)
+rest_rises : {s : ℤ} {m : Ext} {rest : List Ext} → Rest s m rest → (k : ℕ) → k < length rest
+    → IsBelow (item (At s ∷ m ∷ rest) k) (item rest k)
 rest_rises ends k h = absurd (omega arith)
 rest_rises (goes_on rises below more) zero h = less_in _ _ rises
 rest_rises (goes_on rises below more) (suc zero) h = below
 rest_rises (goes_on rises below more) (suc (suc k)) h = rest_rises more k (omega arith)
 
-rest_finite : {s : ℤ} {m : Ext} {rest : List Ext} → Rest s m rest → (k : ℕ) → k ≤ length rest → IsFinite (item (At s ∷ m ∷ rest) k)
+rest_finite : {s : ℤ} {m : Ext} {rest : List Ext} → Rest s m rest → (k : ℕ) → k ≤ length rest
+    → IsFinite (item (At s ∷ m ∷ rest) k)
 rest_finite ends zero h = refl
 rest_finite ends (suc k) h = absurd (omega arith)
 rest_finite (goes_on rises below more) zero h = refl
 rest_finite (goes_on rises below more) (suc zero) h = refl
 rest_finite (goes_on rises below more) (suc (suc k)) h = rest_finite more k (omega arith)
 
-long_rises : (l m : Ext) (s : ℤ) (rest : List Ext) → IsBelow l m → Rest s m rest → (k : ℕ) → k < suc (length rest) → IsBelow (item (l ∷ At s ∷ m ∷ rest) k) (item (m ∷ rest) k)
+long_rises : (l m : Ext) (s : ℤ) (rest : List Ext) → IsBelow l m → Rest s m rest → (k : ℕ) → k < suc (length rest)
+    → IsBelow (item (l ∷ At s ∷ m ∷ rest) k) (item (m ∷ rest) k)
 long_rises l m s rest below more zero h = below
 long_rises l m s rest below more (suc k) h = rest_rises more k (omega arith)
 
-long_finite : (l m : Ext) (s : ℤ) (rest : List Ext) → Rest s m rest → (k : ℕ) → 0 < k → k + 1 < length (l ∷ At s ∷ m ∷ rest) → IsFinite (item (l ∷ At s ∷ m ∷ rest) k)
+long_finite : (l m : Ext) (s : ℤ) (rest : List Ext) → Rest s m rest → (k : ℕ) → 0 < k → k + 1 < length (l ∷ At s ∷ m ∷ rest)
+    → IsFinite (item (l ∷ At s ∷ m ∷ rest) k)
 long_finite l m s rest more zero positive h = absurd (omega arith)
 long_finite l m s rest more (suc k) positive h = rest_finite more k (omega arith)
 
