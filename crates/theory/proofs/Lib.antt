@@ -17,6 +17,8 @@ pub mod ReversedList
 pub mod ReversedCost
 pub mod ZeroCost
 pub mod ConjugateList
+pub mod Parts
+pub mod ConjugateCost
 pub mod Rounding
 pub mod Level
 -- Networks and certificates:
