@@ -5,6 +5,8 @@ pub mod SumsBelow
 -- Curve lists:
 pub mod Ends
 pub mod Shape
+pub mod Places
+pub mod Bounds
 pub mod Clip
 -- Laws of curves:
 pub mod Scaling
