@@ -13,6 +13,7 @@ pub mod Equality
 pub mod Whole
 -- Derived curves:
 pub mod ReversedList
+pub mod ReversedPairs
 pub mod ReversedCost
 pub mod ConjugateList
 pub mod Parts
