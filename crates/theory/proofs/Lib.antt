@@ -1,9 +1,12 @@
 -- Arithmetic of whole numbers:
 pub mod Rings
 pub mod Sums
+pub mod SumsBelow
 -- Curve lists:
 pub mod Ends
 pub mod Shape
+pub mod Places
+pub mod Bounds
 pub mod Clip
 -- Laws of curves:
 pub mod Scaling
@@ -15,9 +18,15 @@ pub mod Whole
 pub mod ReversedList
 pub mod ReversedPairs
 pub mod ReversedCost
+pub mod ZeroCost
 pub mod ConjugateList
 pub mod Parts
 pub mod ConjugateCost
-pub mod ZeroCost
 pub mod Rounding
 pub mod Level
+-- Networks and certificates:
+pub mod SumLaw
+pub mod Duality
+pub mod Refusals
+pub mod Certificates
+pub mod GroundedLaw

@@ -35,6 +35,11 @@ pub sum_over-scale : {A : Type 0} (c : ℤ) (f g : A → ℤ) (xs : List A) → 
 sum_over-scale c f g [] same = omega (arith, ints)
 sum_over-scale c f g (x ∷ xs) same = let e = same x in let more = sum_over-scale c f g xs same in omega (arith, rings)
 
+-- the order of the terms is that of the sums
+pub sum_over-order : {A : Type 0} (f g : A → ℤ) (xs : List A) → Each (λ x. f x ≤ℤ g x) xs → sum_over f xs ≤ℤ sum_over g xs
+sum_over-order f g [] each = omega (arith, ints)
+sum_over-order f g (x ∷ xs) each = let here = each.0 in let more = sum_over-order f g xs each.1 in omega (arith, ints)
+
 -- a sum of numbers that are not negative is none, and is 0 only if each is
 pub sum_positives : {A : Type 0} (f : A → ℤ) (xs : List A) → Each (λ x. pos 0 ≤ℤ f x) xs → pos 0 ≤ℤ sum_over f xs
 sum_positives f [] each = omega (arith, ints)

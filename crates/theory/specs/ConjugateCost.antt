@@ -1,4 +1,4 @@
--- Conjugate cost over a denominator: q times the convex conjugate at the tension w / q (Rockafellar, chapter 8),
+-- Conjugate cost over a denominator: q times the convex conjugate at the tension w / q (Rockafellar: the conjugate),
 -- the greatest of flow times tension less cost. On the span the greatest is met at a finite point of the list,
 -- or at the rest point where the list has none.
 use Rattle.std.specs.Prelude.{ℕ, ℤ, pos, ◌-ℤ◌, ◌*ℤ◌, List, [], ◌∷◌}

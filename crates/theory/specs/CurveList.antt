@@ -1,6 +1,6 @@
 -- Curve list: breakpoints and slopes in turn, `p0 s1 p1 s2 .. sr pr`, with the cost at the rest point as base.
 -- It is a convex piecewise-linear cost by its breakpoints and slopes, and a characteristic curve (a maximal monotone
--- relation of steps) at once: Rockafellar, Network Flows and Monotropic Optimization, chapter 8.
+-- relation of steps) at once: a characteristic curve of Rockafellar, Network Flows and Monotropic Optimization (1984).
 use Rattle.std.specs.Prelude.{◌≡◌, ℕ, ◌+◌, ◌%◌, ◌<◌, ℤ, List, [], ◌∷◌, length, slice_index_or}
 use Rattle.theory.specs.declared.ext.Ext.{Ext}
 use Rattle.theory.specs.declared.ext.Ext.TheVariants.{MinusInf, At, PlusInf}

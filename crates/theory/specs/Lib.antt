@@ -8,6 +8,27 @@ pub mod Span
 pub mod ConjugateCost
 pub mod OnCurve
 pub mod Views
+pub mod Readings
+pub mod Limits
+pub mod PieceAt
 -- Laws of curves:
 pub mod CurveLaws
 pub mod ViewLaws
+-- Networks:
+pub mod Network
+pub mod Conserved
+pub mod Feasible
+pub mod Totals
+pub mod Best
+pub mod Cut
+pub mod Circuit
+pub mod Painting
+pub mod Grounded
+pub mod Certificate
+pub mod ReadingBound
+pub mod Tucker
+-- Laws of networks and certificates:
+pub mod NetworkLaws
+pub mod CertificateLaws
+-- Worked examples:
+pub mod Examples

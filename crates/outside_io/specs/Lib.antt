@@ -1,0 +1,5 @@
+pub mod Counts
+pub mod Files
+pub mod Shelf
+pub mod Sink
+pub mod Whole
