@@ -16,6 +16,7 @@ pub mod Equality
 pub mod Whole
 -- Derived curves:
 pub mod ReversedList
+pub mod ReversedPairs
 pub mod ReversedCost
 pub mod ZeroCost
 pub mod ConjugateList

@@ -7,12 +7,12 @@
 use Rattle.std.proofs.Common.{◌≡◌, ℕ, ◌<◌, ℤ, pos, ◌+ℤ◌, ◌-ℤ◌, ◌*ℤ◌, neg_ℤ, false, List, [], ◌∷◌, ◌++◌, map, reverse, length, refl, sym, ap, ◌∙◌, arith}
 use Rattle.std.specs.Int.{int_max}
 use Rattle.std.proofs.lemmas.Int.{ints, clamps}
-use Rattle.std.proofs.lemmas.List.{reverse-append, append_assoc, append-nil, length-reverse, length-map}
+use Rattle.std.proofs.lemmas.List.{reverse-append, append-nil, length-reverse, length-map}
 use Rattle.theory.specs.declared.ext.Ext.{Ext}
 use Rattle.theory.specs.declared.ext.Ext.TheVariants.{MinusInf, At, PlusInf}
 use Rattle.theory.specs.Sums.{sum_over, greatest_over}
 use Rattle.theory.specs.Ends.{IsBelow, is_below, negated}
-use Rattle.theory.specs.CurveList.{IsCurveList, Listing, Piece, pieces, first, last}
+use Rattle.theory.specs.CurveList.{Listing, Piece, pieces, first, last}
 use Rattle.theory.specs.Domain.{clip, rest_point}
 use Rattle.theory.specs.Cost.{rise, cost}
 use Rattle.theory.specs.ConjugateCost.{with_finite, finite_points, or_one, listed_points, conjugate_cost}
@@ -21,71 +21,11 @@ use Rattle.theory.specs.ViewLaws.{ReversedCostLaw, ReversedConjugateCostLaw}
 use Rattle.theory.proofs.Rings.{rings, scale_mono}
 use Rattle.theory.proofs.Sums.{sum_over-each, greatest_over-same}
 use Rattle.theory.proofs.Ends.{not_above}
-use Rattle.theory.proofs.Shape.{Rest, ends, goes_on, Shape, single, long, shape_by_place, pieces_below}
-use Rattle.theory.proofs.ReversedList.{reversed-more}
+use Rattle.theory.proofs.Shape.{Shape, single, long, shape_by_place, pieces_below}
+use Rattle.theory.proofs.ReversedPairs.{Alternating, point, longer, alternating, alternating-reversed, reversed-two_more, last-reversed_of, first-reversed_of, turned}
 use Rattle.theory.proofs.ZeroCost.{below_last}
 
--- ---- lists of points with a whole slope between any two
-
-data Alternating : List Ext → Type 0 where
-  point : {p : Ext} → Alternating (p ∷ [])
-  longer : {p r : Ext} {s : ℤ} {rest : List Ext} → Alternating (r ∷ rest) → Alternating (p ∷ At s ∷ r ∷ rest)
-
-alternating_rest : {s : ℤ} {m : Ext} {rest : List Ext} → Rest s m rest → Alternating (m ∷ rest)
-alternating_rest ends = point
-alternating_rest (goes_on rises below more) = longer (alternating_rest more)
-
-alternating : {items : List Ext} → Shape items → Alternating items
-alternating single = point
-alternating (long below more) = longer (alternating_rest more)
-
-alternating-added : (s : ℤ) (r : Ext) {items : List Ext} → Alternating items → Alternating (items ++ At s ∷ r ∷ [])
-alternating-added s r point = longer point
-alternating-added s r (longer more) = longer (alternating-added s r more)
-
--- the reversed list of a point and a slope in front of others
-reversed-two_more : (p : Ext) (s : ℤ) (items : List Ext) → reversed_items (p ∷ At s ∷ items) ≡ reversed_items items ++ At (neg_ℤ s) ∷ negated p ∷ []
-reversed-two_more p s items =
-    reversed-more p (At s ∷ items)
-    ∙ ap (λ l. l ++ negated p ∷ []) (reversed-more (At s) items)
-    ∙ append_assoc (reversed_items items) (At (neg_ℤ s) ∷ []) (negated p ∷ [])
-
-alternating-reversed : {items : List Ext} → Alternating items → Alternating (reversed_items items)
-alternating-reversed point = point
-alternating-reversed (longer {p = p} {r = r} {s = s} {rest = rest} more) =
-    rw (reversed-two_more p s (r ∷ rest)) (alternating-added (neg_ℤ s) (negated p) (alternating-reversed more))
-
--- ---- the ends
-
-last-added : (s : Ext) (r : Ext) {items : List Ext} → Alternating items → last (items ++ s ∷ r ∷ []) ≡ r
-last-added s r point = refl
-last-added s r (longer {r = m} more) = last-added s r more
-
-last-reversed_of : {items : List Ext} → Alternating items → last (reversed_items items) ≡ negated (first items)
-last-reversed_of point = refl
-last-reversed_of (longer {p = p} {r = r} {s = s} {rest = rest} more) =
-    rw (reversed-two_more p s (r ∷ rest)) (last-added (At (neg_ℤ s)) (negated p) (alternating-reversed more))
-
-first-added : (others : List Ext) {items : List Ext} → Alternating items → first (items ++ others) ≡ first items
-first-added others point = refl
-first-added others (longer more) = refl
-
-first-reversed_of : {items : List Ext} → Alternating items → first (reversed_items items) ≡ negated (last items)
-first-reversed_of point = refl
-first-reversed_of (longer {p = p} {r = r} {s = s} {rest = rest} more) =
-    rw (reversed-two_more p s (r ∷ rest))
-    (first-added (At (neg_ℤ s) ∷ negated p ∷ []) (alternating-reversed more) ∙ first-reversed_of more)
-
-pub first-reversed : (items : List Ext) → IsCurveList items → first (reversed_items items) ≡ negated (last items)
-first-reversed items list = first-reversed_of (alternating (shape_by_place items list))
-
-pub last-reversed : (items : List Ext) → IsCurveList items → last (reversed_items items) ≡ negated (first items)
-last-reversed items list = last-reversed_of (alternating (shape_by_place items list))
-
 -- ---- the pieces
-
-abbrev turned : Piece → Piece
-turned k = record { left = negated k.right; slope = neg_ℤ k.slope; right = negated k.left }
 
 pieces-added : (f : Piece → ℤ) (s : ℤ) (r : Ext) {items : List Ext} → Alternating items
     → sum_over f (pieces (items ++ At s ∷ r ∷ [])) ≡ sum_over f (pieces items) +ℤ f (record { left = last items; slope = s; right = r })
@@ -153,13 +93,13 @@ cost_of_shape q c x shape =
     let at_rest = neg_product q (rest_point (reversed_items c.items)) (rest_point c.items) (rest_point-reversed shape) in
     let turn = sum_over-reversed (rise q (neg_ℤ rest) (neg_ℤ x)) (alternating shape) in
     let same =
-        sum_over-each
-          (λ k. IsBelow k.left k.right)
-          (λ k. rise q (neg_ℤ rest) (neg_ℤ x) (turned k))
-          (rise q rest x)
-          (pieces c.items)
-          (pieces_below shape)
-          (rise-turned q rest x) in
+    sum_over-each
+    (λ k. IsBelow k.left k.right)
+    (λ k. rise q (neg_ℤ rest) (neg_ℤ x) (turned k))
+    (rise q rest x)
+    (pieces c.items)
+    (pieces_below shape)
+    (rise-turned q rest x) in
     rw at_rest (ap (λ z. pos q *ℤ c.base +ℤ z) (turn ∙ same))
 
 pub cost-reversed : ReversedCostLaw

@@ -57,9 +57,9 @@ inner_places : (l s m : Ext) (rest : List Ext) → IsCurveList (l ∷ s ∷ m �
 inner_places l s m rest list =
     record {
       rises = λ k h. (
-        let within : suc k + 2 < length (l ∷ s ∷ m ∷ rest) = omega arith in
-        let e : suc k + 2 ≡ suc (suc (suc k)) = omega arith in
-        rw e at (list.rises (suc k) within));
+          let within : suc k + 2 < length (l ∷ s ∷ m ∷ rest) = omega arith in
+          let e : suc k + 2 ≡ suc (suc (suc k)) = omega arith in
+          rw e at (list.rises (suc k) within));
       finite = λ k h. list.inner_finite (suc k) (omega arith) (omega arith);
     }
 
