@@ -7,7 +7,7 @@
 -- (3) Round the circuit what the steps take and bring adds up to nothing at each node, since each begins where the one
 --     before ends, so the flow stays conserved. The cost rises by at most t times the span sum, which is at most -1.
 --     So a t beyond the present cost less the bound brings the cost below the bound.
-use Rattle.std.proofs.Common.{◌≡◌, ◌≢◌, ℕ, suc, ◌<◌, ℤ, pos, negsuc, ◌+ℤ◌, ◌-ℤ◌, ◌*ℤ◌, neg_ℤ, ◌≤ℤ◌, ◌<ℤ◌, Bool, true, false, ◌==◌, if◌then◌else◌, List, [], ◌∷◌, length, set, refl, ap, ◌∙◌, subst, ⊎_elim, get_or-set_same, get_or-set_other, length-set, arith}
+use Rattle.std.proofs.Common.{◌≡◌, ◌≢◌, ℕ, suc, ◌<◌, ℤ, pos, negsuc, ◌+ℤ◌, ◌-ℤ◌, ◌*ℤ◌, neg_ℤ, ◌≤ℤ◌, ◌<ℤ◌, Bool, true, false, ◌==◌, if◌then◌else◌, List, [], ◌∷◌, length, set, refl, ap, ◌∙◌, ⊎_elim, get_or-set_same, get_or-set_other, length-set, arith}
 use Rattle.std.proofs.lemmas.Int.{ints}
 use Rattle.std.proofs.lemmas.Bool.{cases_eq}
 use Rattle.theory.specs.declared.ext.Ext.{Ext}
@@ -134,26 +134,19 @@ by_one m end i a d x y there more same =
 abbrev pub mark_of : ℕ → ℕ → ℤ
 mark_of i n = counted (n == i) (pos 1)
 
-by_marks : (t : ℕ) (at_tail at_head : Bool)
-    → counted at_tail (pos t) -ℤ counted at_head (pos t) +ℤ pos t *ℤ (counted at_head (pos 1) -ℤ counted at_tail (pos 1)) ≡ pos 0
-by_marks t true true = omega (arith, rings)
-by_marks t true false = omega (arith, rings)
-by_marks t false true = omega (arith, rings)
-by_marks t false false = omega (arith, rings)
-
-by_marks-back : (t : ℕ) (at_tail at_head : Bool)
-    → counted at_tail (neg_ℤ (pos t)) -ℤ counted at_head (neg_ℤ (pos t)) +ℤ pos t *ℤ (counted at_tail (pos 1) -ℤ counted at_head (pos 1)) ≡ pos 0
-by_marks-back t true true = omega (arith, rings)
-by_marks-back t true false = omega (arith, rings)
-by_marks-back t false true = omega (arith, rings)
-by_marks-back t false false = omega (arith, rings)
+by_marks : (d : ℤ) (at_tail at_head : Bool)
+    → counted at_tail d -ℤ counted at_head d +ℤ d *ℤ (counted at_head (pos 1) -ℤ counted at_tail (pos 1)) ≡ pos 0
+by_marks d true true = omega (arith, rings)
+by_marks d true false = omega (arith, rings)
+by_marks d false true = omega (arith, rings)
+by_marks d false false = omega (arith, rings)
 
 -- a step takes from where it begins and brings to where it ends
 brings : (t : ℕ) (forward : Bool) (i from to : ℕ)
     → counted (from == i) (sends t forward) -ℤ counted (to == i) (sends t forward)
     +ℤ pos t *ℤ (mark_of i (if forward then to else from) -ℤ mark_of i (if forward then from else to)) ≡ pos 0
-brings t true i from to = by_marks t (from == i) (to == i)
-brings t false i from to = by_marks-back t (from == i) (to == i)
+brings t true i from to = by_marks (pos t) (from == i) (to == i)
+brings t false i from to = let e = by_marks (neg_ℤ (pos t)) (from == i) (to == i) in omega (arith, rings)
 
 step_divergence : (net : Network) (t : ℕ) (s : Step) (x : List ℤ) (i : ℕ) → length x ≡ length net.arcs → s.arc.0 < length net.arcs
     → divergence net («at» (sent t s x)) i +ℤ pos t *ℤ (mark_of i (end_of net s) -ℤ mark_of i (begin_of net s)) ≡ divergence net («at» x) i
