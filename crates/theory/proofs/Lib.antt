@@ -28,5 +28,6 @@ pub mod Level
 pub mod SumLaw
 pub mod Duality
 pub mod Refusals
+pub mod Unbounded
 pub mod Certificates
 pub mod GroundedLaw
