@@ -1,7 +1,6 @@
 -- What a valid certificate says: an optimum over all fractions, or that there is no feasible flow, or a feasible flow,
 -- flows of costs below every bound, and no feasible potential. So certificates of two kinds are never valid for one network.
-use Rattle.std.specs.Prelude.{◌≡◌, ℕ, ℤ, Bool, List}
-use Rattle.theory.specs.declared.network.Step.{Step}
+use Rattle.std.specs.Prelude.{◌≡◌, ℤ, List}
 use Rattle.theory.specs.Network.{Network, IsNetwork}
 use Rattle.theory.specs.Feasible.{IsFeasibleFlow, IsFeasiblePotential}
 use Rattle.theory.specs.Best.{IsLeast, IsGreatest, FlowIsRefused, TensionIsRefused}

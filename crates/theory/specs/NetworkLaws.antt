@@ -2,7 +2,6 @@
 -- a feasible flow with a negative circuit leaves no plan bounded.
 use Rattle.std.specs.Prelude.{◌≡◌, ℕ, ◌≤◌, ◌<◌, ℤ, pos, ◌*ℤ◌, ◌≤ℤ◌, ◌<ℤ◌, Bool, List, length}
 use Rattle.theory.specs.declared.network.Step.{Step}
-use Rattle.theory.specs.CurveList.{Listing}
 use Rattle.theory.specs.OnCurve.{IsOnCurve}
 use Rattle.theory.specs.Network.{Network, IsNetwork, «at», curve, over_arcs}
 use Rattle.theory.specs.Conserved.{IsConserved, tension}

@@ -1,6 +1,6 @@
 // Laws of the derived curves: conjugate, reversed, zero-cost and level lists.
 
-ghost use Rattle.theory.specs.ViewLaws.{ConjugateLaw, ConjugateTwiceLaw, ConjugateCostLaw, ConjugatePairLaw, ReversedLaw, ReversedTwiceLaw, ReversedCostLaw, ReversedConjugateCostLaw, ZeroCostLaw, LevelLaw, LevelZeroLaw};
+ghost use Rattle.theory.specs.ViewLaws.{ConjugateLaw, ConjugateTwiceLaw, ConjugateCostLaw, ConjugatePairLaw, ReversedLaw, ReversedPairLaw, ReversedTwiceLaw, ReversedCostLaw, ReversedConjugateCostLaw, ZeroCostLaw, LevelLaw, LevelZeroLaw};
 
 /// The conjugate list is a curve; its domain is the span and its span is the domain.
 pub fn conjugate_is_list()
@@ -25,6 +25,11 @@ pub fn conjugate_pair()
 /// The reversed list of a curve is a curve.
 pub fn reversed_is_list()
     ensures { ReversedLaw }
+{}
+
+/// A pair of the curve, each number negated, is a pair of the reversed curve.
+pub fn reversed_pair()
+    ensures { ReversedPairLaw }
 {}
 
 /// The reverse of the reversed curve is the curve.
