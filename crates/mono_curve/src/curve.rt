@@ -4,14 +4,14 @@ ghost use Rattle.theory.specs.Ends.{whole, is_below};
 ghost use Rattle.theory.specs.CurveList.{item};
 ghost use Rattle.theory.specs.Limits.{number_most, base_most};
 ghost use Rattle.theory.specs.Certificate.{IsWithin};
-ghost use Rattle.mono_curve.specs.CurveValue.{IsValidCurve};
+ghost use Rattle.mono_curve.specs.CurveValue.{IsValidCurve, items_most};
 
 use crate::fault::CurveFault;
 use crate::listed::Listed;
 use crate::monotone::Monotone;
 use crate::steps::Steps;
 use crate::{faults, halving};
-use std::alloc::Global;
+use std::alloc::{AllocError, Global};
 use std::marker::Model;
 use std::sync::ledger::Ledger;
 use theory::{Ext, pricing};
@@ -44,6 +44,22 @@ impl Curve {
         let kept = items.to_vec(alloc).map_err(|_| CurveFault::NoMemory)?;
         Ok(Curve { items: kept, base })
     }
+}
+
+/// The curve with the list and base of another.
+pub fn to_curve<C: Listed>(alloc: Global, curve: &C) -> Result<Curve, AllocError>
+    requires short { length (C.listing curve.now).items ≤ items_most }
+    requires base_within { IsWithin base_most (C.listing curve.now).base }
+    ensures { IfOk result (λ c. c.listing ≡ C.listing curve.now) }
+{
+    let mut items = Vec::with_capacity(alloc, curve.len())?;
+    for k in 0..curve.len() {
+        items.push(curve.item(k))?;
+    }
+    Ok(Curve {
+        items,
+        base: curve.base(),
+    })
 }
 
 impl Listed for Curve {
