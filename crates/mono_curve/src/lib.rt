@@ -19,3 +19,6 @@ pub use monotone::Monotone;
 pub use pricing::{cost_at, domain_of, on_curve, span_of};
 pub use steps::Steps;
 pub use theory::Ext;
+
+#[cfg(test)]
+mod tests;
