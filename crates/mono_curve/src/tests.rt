@@ -150,92 +150,93 @@ const AWAY: Row = Row {
     pair: true,
 };
 
+const ROWS: [Row; 15] = [
+    BENT,
+    Row {
+        flow: 4,
+        cost: Some(8),
+        slopes: (At(2), At(5)),
+        tension: 2,
+        range: (At(0), At(4)),
+        pair: true,
+        ..BENT
+    },
+    Row {
+        flow: 0,
+        cost: Some(0),
+        slopes: (MinusInf, At(2)),
+        tension: 5,
+        range: (At(4), At(10)),
+        ..BENT
+    },
+    Row {
+        flow: 10,
+        cost: Some(38),
+        slopes: (At(5), PlusInf),
+        tension: 6,
+        range: (At(10), At(10)),
+        pair: true,
+        ..BENT
+    },
+    Row {
+        flow: -1,
+        cost: None,
+        slopes: NOWHERE_BELOW,
+        tension: 1,
+        range: (At(0), At(0)),
+        ..BENT
+    },
+    Row {
+        flow: 11,
+        cost: None,
+        slopes: NOWHERE_ABOVE,
+        ..BENT
+    },
+    FIXED,
+    Row {
+        flow: 6,
+        cost: None,
+        slopes: NOWHERE_ABOVE,
+        pair: false,
+        ..FIXED
+    },
+    FALLING,
+    Row {
+        flow: -4,
+        cost: Some(4),
+        slopes: (MinusInf, At(-1)),
+        tension: -2,
+        range: (At(-4), At(-4)),
+        ..FALLING
+    },
+    Row {
+        tension: 0,
+        range: NOWHERE_ABOVE,
+        pair: false,
+        ..FALLING
+    },
+    LINE,
+    Row {
+        tension: 2,
+        range: NOWHERE_BELOW,
+        pair: false,
+        ..LINE
+    },
+    AWAY,
+    Row {
+        flow: 2,
+        cost: Some(10),
+        slopes: (MinusInf, At(3)),
+        tension: 7,
+        range: (At(6), At(6)),
+        pair: false,
+        ..AWAY
+    },
+];
+
 #[test]
 fn worked_curves(rt: HostRuntime) -> Result<(), Fail> {
-    let rows = [
-        BENT,
-        Row {
-            flow: 4,
-            cost: Some(8),
-            slopes: (At(2), At(5)),
-            tension: 2,
-            range: (At(0), At(4)),
-            pair: true,
-            ..BENT
-        },
-        Row {
-            flow: 0,
-            cost: Some(0),
-            slopes: (MinusInf, At(2)),
-            tension: 5,
-            range: (At(4), At(10)),
-            ..BENT
-        },
-        Row {
-            flow: 10,
-            cost: Some(38),
-            slopes: (At(5), PlusInf),
-            tension: 6,
-            range: (At(10), At(10)),
-            pair: true,
-            ..BENT
-        },
-        Row {
-            flow: -1,
-            cost: None,
-            slopes: NOWHERE_BELOW,
-            tension: 1,
-            range: (At(0), At(0)),
-            ..BENT
-        },
-        Row {
-            flow: 11,
-            cost: None,
-            slopes: NOWHERE_ABOVE,
-            ..BENT
-        },
-        FIXED,
-        Row {
-            flow: 6,
-            cost: None,
-            slopes: NOWHERE_ABOVE,
-            pair: false,
-            ..FIXED
-        },
-        FALLING,
-        Row {
-            flow: -4,
-            cost: Some(4),
-            slopes: (MinusInf, At(-1)),
-            tension: -2,
-            range: (At(-4), At(-4)),
-            ..FALLING
-        },
-        Row {
-            tension: 0,
-            range: NOWHERE_ABOVE,
-            pair: false,
-            ..FALLING
-        },
-        LINE,
-        Row {
-            tension: 2,
-            range: NOWHERE_BELOW,
-            pair: false,
-            ..LINE
-        },
-        AWAY,
-        Row {
-            flow: 2,
-            cost: Some(10),
-            slopes: (MinusInf, At(3)),
-            tension: 7,
-            range: (At(6), At(6)),
-            pair: false,
-            ..AWAY
-        },
-    ];
-    for row in &rows {
+    for row in &ROWS {
         compare(&rt, rt.alloc(), row)?;
     }
     Ok(())
@@ -266,48 +267,51 @@ fn compare(rt: &impl Abort, alloc: Global, row: &Row) -> Result<(), Fail> {
     Ok(())
 }
 
+const LARGE: i128 = BASE_MOST + 1;
+
+/// A list, a base, the fault and its text.
+const FAULTS: [(&[Ext], i128, CurveFault, &str); 6] = [
+    (
+        &[],
+        0,
+        CurveFault::Even,
+        "a curve has an odd number of items",
+    ),
+    (
+        &[PlusInf; 4005],
+        LARGE,
+        CurveFault::Long,
+        "a curve has at most 4003 items",
+    ),
+    (
+        &[At(2_000_000), At(1), MinusInf],
+        0,
+        CurveFault::Infinite(2),
+        "item 2 may not be infinite",
+    ),
+    (
+        &[At(0), At(-1_000_001), At(0)],
+        LARGE,
+        CurveFault::Magnitude(1),
+        "item 1 is too large",
+    ),
+    (
+        &[At(0), At(1), At(0)],
+        LARGE,
+        CurveFault::Magnitude(3),
+        "item 3 is too large",
+    ),
+    (
+        &[At(0), At(1), At(0)],
+        0,
+        CurveFault::Order(2),
+        "item 2 is not greater than the item two places before it",
+    ),
+];
+
 #[test]
 fn faults(rt: HostRuntime) -> Result<(), Fail> {
-    let large = BASE_MOST + 1;
-    let rows: [(&[Ext], i128, CurveFault, &str); 6] = [
-        (
-            &[],
-            0,
-            CurveFault::Even,
-            "a curve has an odd number of items",
-        ),
-        (
-            &[PlusInf; 4005],
-            large,
-            CurveFault::Long,
-            "a curve has at most 4003 items",
-        ),
-        (
-            &[At(2_000_000), At(1), MinusInf],
-            0,
-            CurveFault::Infinite(2),
-            "item 2 may not be infinite",
-        ),
-        (
-            &[At(0), At(-1_000_001), At(0)],
-            large,
-            CurveFault::Magnitude(1),
-            "item 1 is too large",
-        ),
-        (
-            &[At(0), At(1), At(0)],
-            large,
-            CurveFault::Magnitude(3),
-            "item 3 is too large",
-        ),
-        (
-            &[At(0), At(1), At(0)],
-            0,
-            CurveFault::Order(2),
-            "item 2 is not greater than the item two places before it",
-        ),
-    ];
-    for (items, base, fault, text) in rows {
+    for (items, base, fault, text) in FAULTS {
         assert_eq!(rt; Curve::of_list(rt.alloc(), items, base).err(), Some(fault));
         assert_eq!(rt; format!(in rt.alloc(); "{fault}")?.as_str(), text);
     }
