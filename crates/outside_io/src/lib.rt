@@ -4,11 +4,17 @@
 #![tactic(auto)]
 
 mod byte_text;
+mod failing;
+mod files;
+mod memory_shelf;
+mod memory_sink;
 mod shelf;
 mod sink;
 mod whole;
 
 pub use byte_text::ByteText;
+pub use memory_shelf::MemoryShelf;
+pub use memory_sink::MemorySink;
 pub use shelf::{Got, Opened, Shelf};
 pub use sink::{Put, Sink};
 pub use whole::{ReadAns, Written, read_file, write_all};
