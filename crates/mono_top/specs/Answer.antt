@@ -25,14 +25,14 @@ pub record Outside : Type 1 where
 abbrev pub RefusesFile : Outside → Place → List ℕ → Status → List ℕ → Type 0
 RefusesFile outside place name status text =
     (status ≡ Missing) × (text ≡ missing_line place) × outside.missed × ForSome outside.holds (λ files. file_of files name ≡ None)
-  ⊎ (status ≡ ReadFault) × (text ≡ read_fault_line place) × outside.faulted
-  ⊎ (status ≡ TooLong) × (text ≡ too_long_line place) × ForSome outside.holds (λ files. IsReadPastMost files outside.rest name)
+    ⊎ (status ≡ ReadFault) × (text ≡ read_fault_line place) × outside.faulted
+    ⊎ (status ≡ TooLong) × (text ≡ too_long_line place) × ForSome outside.holds (λ files. IsReadPastMost files outside.rest name)
 
 -- the file was read whole, and the rest of the work follows from its bytes
 abbrev pub ReadsThen : Outside → Place → List ℕ → (List ℕ → Status → List ℕ → Type 0) → Status → List ℕ → Type 0
 ReadsThen outside place name Next status text =
     RefusesFile outside place name status text
-  ⊎ ((bytes : List ℕ) × ForSome outside.holds (λ files. file_of files name ≡ Some bytes) × (length bytes ≤ file_most) × Next bytes status text)
+    ⊎ ((bytes : List ℕ) × ForSome outside.holds (λ files. file_of files name ≡ Some bytes) × (length bytes ≤ file_most) × Next bytes status text)
 
 -- the order of the refusals is the order of the readings
 abbrev pub Answers : Outside → Option Request → Status → List ℕ → Type 0

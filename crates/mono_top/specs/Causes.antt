@@ -11,7 +11,7 @@ use Rattle.mono_top.specs.declared.status.Status.TheVariants.{Usage, Missing, Re
 abbrev pub AsksUnbuilt : Files → Option Request → Type 0
 AsksUnbuilt files None = ⊥
 AsksUnbuilt files (Some (solve model)) =
-  (text : List ℕ) × (file_of files model ≡ Some text) × (length text ≤ file_most) × ¬ IsBuilt text
+    (text : List ℕ) × (file_of files model ≡ Some text) × (length text ≤ file_most) × ¬ IsBuilt text
 
 -- a command was asked for, and its files are readable
 abbrev pub IsAnswerable : Files → Option Request → Type 0

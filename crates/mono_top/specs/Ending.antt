@@ -11,4 +11,4 @@ WritesDue Due old new status = (text : List ℕ) × Due status text × Grew old 
 -- the old bytes, and then the front of a due text: shorter than the text, for which there was too little sure room
 abbrev pub WritesPart : (Status → List ℕ → Type 0) → Option (List ℕ) → Option (List ℕ) → Option ℕ → Type 0
 WritesPart Due old new sure =
-  (status : Status) × (text : List ℕ) × Due status text × GrewShort old new text × ForSome sure (λ left. left < length text)
+    (status : Status) × (text : List ℕ) × Due status text × GrewShort old new text × ForSome sure (λ left. left < length text)

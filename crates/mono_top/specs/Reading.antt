@@ -14,7 +14,7 @@ IsReadable files name = (bytes : List ℕ) × (file_of files name ≡ Some bytes
 -- `file_most + 1` bytes of the file were read, and `rest` is what follows them
 abbrev pub IsReadPastMost : Files → Option (List ℕ) → List ℕ → Type 0
 IsReadPastMost files rest name =
-  (taken left : List ℕ) × (length taken ≡ file_most + 1) × (file_of files name ≡ Some (taken ++ left)) × (rest ≡ Some left)
+    (taken left : List ℕ) × (length taken ≡ file_most + 1) × (file_of files name ≡ Some (taken ++ left)) × (rest ≡ Some left)
 
 -- P of a file that is reached: each file before it is readable
 abbrev pub Reaches : Files → (List ℕ → Type 0) → List (List ℕ) → Type 0

@@ -20,4 +20,4 @@ IsBuilt model = model ≡ empty_model
 abbrev pub Solves : List ℕ → Status → List ℕ → Type 0
 Solves model status text =
     IsBuilt model × (status ≡ Done) × (text ≡ empty_certificate)
-  ⊎ (¬ IsBuilt model) × (status ≡ Unbuilt) × (text ≡ unbuilt_line)
+    ⊎ (¬ IsBuilt model) × (status ≡ Unbuilt) × (text ≡ unbuilt_line)

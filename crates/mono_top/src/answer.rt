@@ -1,5 +1,5 @@
 // From the words to the reply: all of the work, and no write.
-ghost use Rattle.std.specs.Prelude.{◌≡◌};
+ghost use Rattle.std.specs.Prelude.{◌≡◌, None};
 ghost use Rattle.outside_io.specs.Counts.{Rose, Counts};
 ghost use Rattle.mono_top.specs.Replies.{Replies};
 ghost use Rattle.mono_top.specs.Request.{asked};
@@ -12,10 +12,19 @@ use crate::status::Status;
 use outside_io::Shelf;
 use std::alloc::{AllocError, Global};
 
-pub(crate) fn reply_to<S: Shelf>(alloc: Global, words: &[String], shelf: &mut S) -> Result<Reply, AllocError>
-    ensures replies { Replies (record { holds = S.holds shelf.old; rest = S.rest shelf.new;
-        missed = Rose (S.misses shelf.old) (S.misses shelf.new); faulted = Rose (S.faults shelf.old) (S.faults shelf.new) })
+pub(crate) fn reply_to<S: Shelf>(
+    alloc: Global,
+    words: &[String],
+    shelf: &mut S,
+) -> Result<Reply, AllocError>
+    ensures replies { Replies (record {
+      holds = S.holds shelf.old;
+      rest = S.rest shelf.new;
+      missed = Rose (S.misses shelf.old) (S.misses shelf.new);
+      faulted = Rose (S.faults shelf.old) (S.faults shelf.new);
+    })
         (asked words.now) result }
+    ensures untouched { asked words.now ≡ None → shelf.new ≡ shelf.old }
     ensures holds { S.holds shelf.new ≡ S.holds shelf.old }
     ensures misses { Counts (S.misses shelf.old) (S.misses shelf.new) }
     ensures faults { Counts (S.faults shelf.old) (S.faults shelf.new) }

@@ -18,9 +18,18 @@ pub(crate) enum Fetched {
     Refused(Reply),
 }
 
-pub(crate) fn fetch<S: Shelf>(alloc: Global, shelf: &mut S, place: Place, name: &str) -> Result<Fetched, AllocError>
-    ensures fetches { Fetches (record { holds = S.holds shelf.old; rest = S.rest shelf.new;
-        missed = Rose (S.misses shelf.old) (S.misses shelf.new); faulted = Rose (S.faults shelf.old) (S.faults shelf.new) }) place name.now result }
+pub(crate) fn fetch<S: Shelf>(
+    alloc: Global,
+    shelf: &mut S,
+    place: Place,
+    name: &str,
+) -> Result<Fetched, AllocError>
+    ensures fetches { Fetches (record {
+      holds = S.holds shelf.old;
+      rest = S.rest shelf.new;
+      missed = Rose (S.misses shelf.old) (S.misses shelf.new);
+      faulted = Rose (S.faults shelf.old) (S.faults shelf.new);
+    }) place name.now result }
     ensures holds { S.holds shelf.new ≡ S.holds shelf.old }
     ensures misses { Counts (S.misses shelf.old) (S.misses shelf.new) }
     ensures faults { Counts (S.faults shelf.old) (S.faults shelf.new) }

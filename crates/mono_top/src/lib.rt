@@ -10,8 +10,6 @@ mod solve;
 mod status;
 mod top;
 
-
 pub use fetch::FILE_MOST;
 pub use status::Status;
 pub use top::run;
-

@@ -13,9 +13,17 @@ use crate::status::Status;
 use outside_io::{ByteText, Shelf};
 use std::alloc::{AllocError, Global};
 
-pub(crate) fn solve<S: Shelf>(alloc: Global, shelf: &mut S, model: &str) -> Result<Reply, AllocError>
-    ensures replies { Replies (record { holds = S.holds shelf.old; rest = S.rest shelf.new;
-        missed = Rose (S.misses shelf.old) (S.misses shelf.new); faulted = Rose (S.faults shelf.old) (S.faults shelf.new) })
+pub(crate) fn solve<S: Shelf>(
+    alloc: Global,
+    shelf: &mut S,
+    model: &str,
+) -> Result<Reply, AllocError>
+    ensures replies { Replies (record {
+      holds = S.holds shelf.old;
+      rest = S.rest shelf.new;
+      missed = Rose (S.misses shelf.old) (S.misses shelf.new);
+      faulted = Rose (S.faults shelf.old) (S.faults shelf.new);
+    })
         (Some (solve_request model.now)) result }
     ensures holds { S.holds shelf.new ≡ S.holds shelf.old }
     ensures misses { Counts (S.misses shelf.old) (S.misses shelf.new) }

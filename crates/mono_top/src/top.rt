@@ -16,13 +16,27 @@ use std::alloc::Global;
 use std::sync::ledger::Ledger;
 
 /// Does what the words after the program's name ask for. The whole text is made before its first byte is written.
-pub fn run<S: Shelf, K: Sink, L: Ledger>(alloc: Global, words: &[String], shelf: &mut S, out: &mut K, steps: &mut Steps<L>) -> Status
+pub fn run<S: Shelf, K: Sink, L: Ledger>(
+    alloc: Global,
+    words: &[String],
+    shelf: &mut S,
+    out: &mut K,
+    steps: &mut Steps<L>,
+) -> Status
     // What is written.
-    ensures written { result ≢ Status.WriteFault → result ≢ Status.NoMemory → WritesDue (Answers (record { holds = S.holds shelf.old; rest = S.rest shelf.new;
-        missed = Rose (S.misses shelf.old) (S.misses shelf.new); faulted = Rose (S.faults shelf.old) (S.faults shelf.new) })
+    ensures written { result ≢ Status.WriteFault → result ≢ Status.NoMemory → WritesDue (Answers (record {
+      holds = S.holds shelf.old;
+      rest = S.rest shelf.new;
+      missed = Rose (S.misses shelf.old) (S.misses shelf.new);
+      faulted = Rose (S.faults shelf.old) (S.faults shelf.new);
+    })
         (asked words.now)) (K.written out.old) (K.written out.new) result }
-    ensures part { result ≡ Status.WriteFault → WritesPart (Answers (record { holds = S.holds shelf.old; rest = S.rest shelf.new;
-        missed = Rose (S.misses shelf.old) (S.misses shelf.new); faulted = Rose (S.faults shelf.old) (S.faults shelf.new) })
+    ensures part { result ≡ Status.WriteFault → WritesPart (Answers (record {
+      holds = S.holds shelf.old;
+      rest = S.rest shelf.new;
+      missed = Rose (S.misses shelf.old) (S.misses shelf.new);
+      faulted = Rose (S.faults shelf.old) (S.faults shelf.new);
+    })
         (asked words.now)) (K.written out.old) (K.written out.new) (K.sure out.old) }
     ensures nothing { result ≡ Status.NoMemory → out.new ≡ out.old }
 
@@ -50,6 +64,7 @@ pub fn run<S: Shelf, K: Sink, L: Ledger>(alloc: Global, words: &[String], shelf:
         → ¬ Rose (S.faults shelf.old) (S.faults shelf.new) → ¬ Rose (K.faults out.old) (K.faults out.new) → GoesThrough result) }
 
     // What stays.
+    ensures untouched { asked words.now ≡ None → shelf.new ≡ shelf.old }
     ensures holds { S.holds shelf.new ≡ S.holds shelf.old }
     ensures misses { Counts (S.misses shelf.old) (S.misses shelf.new) }
     ensures faults { Counts (S.faults shelf.old) (S.faults shelf.new) }
