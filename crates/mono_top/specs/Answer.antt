@@ -21,20 +21,23 @@ pub record Outside : Type 1 where
   pub missed : Type 0
   pub faulted : Type 0
 
+abbrev pub outside_of : Option Files → Option (List ℕ) → Type 0 → Type 0 → Outside
+outside_of holds rest missed faulted = record { holds = holds; rest = rest; missed = missed; faulted = faulted }
+
 -- the file was not read whole, and the line says so
-abbrev pub RefusesFile : Outside → Place → List ℕ → Status → List ℕ → Type 0
-RefusesFile outside place name status text =
+abbrev pub RefusesFile : Place → List ℕ → Outside → Status → List ℕ → Type 0
+RefusesFile place name outside status text =
     (status ≡ Missing) × (text ≡ missing_line place) × outside.missed × ForSome outside.holds (λ files. file_of files name ≡ None)
     ⊎ (status ≡ ReadFault) × (text ≡ read_fault_line place) × outside.faulted
     ⊎ (status ≡ TooLong) × (text ≡ too_long_line place) × ForSome outside.holds (λ files. IsReadPastMost files outside.rest name)
 
 -- the file was read whole, and the rest of the work follows from its bytes
-abbrev pub ReadsThen : Outside → Place → List ℕ → (List ℕ → Status → List ℕ → Type 0) → Status → List ℕ → Type 0
-ReadsThen outside place name Next status text =
-    RefusesFile outside place name status text
+abbrev pub ReadsThen : Place → List ℕ → (List ℕ → Status → List ℕ → Type 0) → Outside → Status → List ℕ → Type 0
+ReadsThen place name Next outside status text =
+    RefusesFile place name outside status text
     ⊎ ((bytes : List ℕ) × ForSome outside.holds (λ files. file_of files name ≡ Some bytes) × (length bytes ≤ file_most) × Next bytes status text)
 
 -- the order of the refusals is the order of the readings
-abbrev pub Answers : Outside → Option Request → Status → List ℕ → Type 0
-Answers outside None status text = (status ≡ Usage) × (text ≡ usage_line)
-Answers outside (Some (solve model)) status text = ReadsThen outside First model Solves status text
+abbrev pub Answers : Option Request → Outside → Status → List ℕ → Type 0
+Answers None outside status text = (status ≡ Usage) × (text ≡ usage_line)
+Answers (Some (solve model)) outside status text = ReadsThen First model Solves outside status text

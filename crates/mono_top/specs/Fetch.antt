@@ -18,7 +18,7 @@ text_of (Fixed line) = line.now
 text_of (Made text) = text
 
 -- the bytes of the whole file, or the line that refuses it; memory is asked for only where the name is held
-abbrev pub Fetches : Outside → Place → List ℕ → Result Fetched AllocError → Type 0
-Fetches outside place name (Ok (Bytes bytes)) = ForSome outside.holds (λ files. file_of files name ≡ Some bytes) × (length bytes ≤ file_most)
-Fetches outside place name (Ok (Refused reply)) = RefusesFile outside place name reply.status (text_of reply.text)
-Fetches outside place name (Err error) = ForSome outside.holds (λ files. IsHeld files name)
+abbrev pub Fetches : Place → List ℕ → Outside → Result Fetched AllocError → Type 0
+Fetches place name outside (Ok (Bytes bytes)) = ForSome outside.holds (λ files. file_of files name ≡ Some bytes) × (length bytes ≤ file_most)
+Fetches place name outside (Ok (Refused reply)) = RefusesFile place name outside reply.status (text_of reply.text)
+Fetches place name outside (Err error) = ForSome outside.holds (λ files. IsHeld files name)

@@ -9,7 +9,7 @@ use Rattle.mono_top.specs.Request.{Request, files_of}
 use Rattle.mono_top.specs.declared.reply.Reply.{Reply}
 
 -- a reply that is due; or want of memory, which a command meets only where its first file is held
-abbrev pub Replies : Outside → Option Request → Result Reply AllocError → Type 0
-Replies outside request (Ok reply) = Answers outside request reply.status (text_of reply.text)
-Replies outside None (Err error) = ⊥
-Replies outside (Some command) (Err error) = ForSome outside.holds (λ files. HoldsFirst files (files_of (Some command)))
+abbrev pub Replies : Option Request → Outside → Result Reply AllocError → Type 0
+Replies request outside (Ok reply) = Answers request outside reply.status (text_of reply.text)
+Replies None outside (Err error) = ⊥
+Replies (Some command) outside (Err error) = ForSome outside.holds (λ files. HoldsFirst files (files_of (Some command)))

@@ -1,6 +1,7 @@
 // From the words to the reply: all of the work, and no write.
 ghost use Rattle.std.specs.Prelude.{◌≡◌, None};
 ghost use Rattle.outside_io.specs.Counts.{Rose, Counts};
+ghost use Rattle.mono_top.specs.Answer.{outside_of};
 ghost use Rattle.mono_top.specs.Replies.{Replies};
 ghost use Rattle.mono_top.specs.Request.{asked};
 
@@ -17,13 +18,8 @@ pub(crate) fn reply_to<S: Shelf>(
     words: &[String],
     shelf: &mut S,
 ) -> Result<Reply, AllocError>
-    ensures replies { Replies (record {
-      holds = S.holds shelf.old;
-      rest = S.rest shelf.new;
-      missed = Rose (S.misses shelf.old) (S.misses shelf.new);
-      faulted = Rose (S.faults shelf.old) (S.faults shelf.new);
-    })
-        (asked words.now) result }
+    ensures replies { Replies (asked words.now) (outside_of (S.holds shelf.old) (S.rest shelf.new)
+        (Rose (S.misses shelf.old) (S.misses shelf.new)) (Rose (S.faults shelf.old) (S.faults shelf.new))) result }
     ensures untouched { asked words.now ≡ None → shelf.new ≡ shelf.old }
     ensures holds { S.holds shelf.new ≡ S.holds shelf.old }
     ensures misses { Counts (S.misses shelf.old) (S.misses shelf.new) }

@@ -1,6 +1,7 @@
 // A file of a command's words, read whole or refused.
 ghost use Rattle.std.specs.Prelude.{◌≡◌};
 ghost use Rattle.outside_io.specs.Counts.{Rose, Counts};
+ghost use Rattle.mono_top.specs.Answer.{outside_of};
 ghost use Rattle.mono_top.specs.Fetch.{Fetches};
 
 use crate::lines::{self, Place};
@@ -24,12 +25,8 @@ pub(crate) fn fetch<S: Shelf>(
     place: Place,
     name: &str,
 ) -> Result<Fetched, AllocError>
-    ensures fetches { Fetches (record {
-      holds = S.holds shelf.old;
-      rest = S.rest shelf.new;
-      missed = Rose (S.misses shelf.old) (S.misses shelf.new);
-      faulted = Rose (S.faults shelf.old) (S.faults shelf.new);
-    }) place name.now result }
+    ensures fetches { Fetches place name.now (outside_of (S.holds shelf.old) (S.rest shelf.new)
+        (Rose (S.misses shelf.old) (S.misses shelf.new)) (Rose (S.faults shelf.old) (S.faults shelf.new))) result }
     ensures holds { S.holds shelf.new ≡ S.holds shelf.old }
     ensures misses { Counts (S.misses shelf.old) (S.misses shelf.new) }
     ensures faults { Counts (S.faults shelf.old) (S.faults shelf.new) }

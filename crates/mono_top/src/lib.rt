@@ -13,3 +13,6 @@ mod top;
 pub use fetch::FILE_MOST;
 pub use status::Status;
 pub use top::run;
+
+#[cfg(test)]
+mod tests;

@@ -1,6 +1,7 @@
 // The command `solve MODEL`.
 ghost use Rattle.std.specs.Prelude.{◌≡◌, IfOk, Some};
 ghost use Rattle.outside_io.specs.Counts.{Rose, Counts};
+ghost use Rattle.mono_top.specs.Answer.{outside_of};
 ghost use Rattle.mono_top.specs.Fetch.{text_of};
 ghost use Rattle.mono_top.specs.Replies.{Replies};
 ghost use Rattle.mono_top.specs.Request.{solve as solve_request};
@@ -18,13 +19,8 @@ pub(crate) fn solve<S: Shelf>(
     shelf: &mut S,
     model: &str,
 ) -> Result<Reply, AllocError>
-    ensures replies { Replies (record {
-      holds = S.holds shelf.old;
-      rest = S.rest shelf.new;
-      missed = Rose (S.misses shelf.old) (S.misses shelf.new);
-      faulted = Rose (S.faults shelf.old) (S.faults shelf.new);
-    })
-        (Some (solve_request model.now)) result }
+    ensures replies { Replies (Some (solve_request model.now)) (outside_of (S.holds shelf.old) (S.rest shelf.new)
+        (Rose (S.misses shelf.old) (S.misses shelf.new)) (Rose (S.faults shelf.old) (S.faults shelf.new))) result }
     ensures holds { S.holds shelf.new ≡ S.holds shelf.old }
     ensures misses { Counts (S.misses shelf.old) (S.misses shelf.new) }
     ensures faults { Counts (S.faults shelf.old) (S.faults shelf.new) }

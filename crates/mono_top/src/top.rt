@@ -2,7 +2,7 @@
 ghost use Rattle.std.specs.Prelude.{◌≡◌, ◌≢◌, ◌⊎◌, None, IsSome};
 ghost use Rattle.std.specs.Option.{ForSome};
 ghost use Rattle.outside_io.specs.Counts.{Rose, Counts};
-ghost use Rattle.mono_top.specs.Answer.{Answers};
+ghost use Rattle.mono_top.specs.Answer.{Answers, outside_of};
 ghost use Rattle.mono_top.specs.Causes.{AsksUnbuilt, IsAnswerable, GoesThrough};
 ghost use Rattle.mono_top.specs.Ending.{WritesDue, WritesPart};
 ghost use Rattle.mono_top.specs.Reading.{ReachesMissing, ReachesPastMost, ReachesTooLong, HoldsFirst};
@@ -24,20 +24,10 @@ pub fn run<S: Shelf, K: Sink, L: Ledger>(
     steps: &mut Steps<L>,
 ) -> Status
     // What is written.
-    ensures written { result ≢ Status.WriteFault → result ≢ Status.NoMemory → WritesDue (Answers (record {
-      holds = S.holds shelf.old;
-      rest = S.rest shelf.new;
-      missed = Rose (S.misses shelf.old) (S.misses shelf.new);
-      faulted = Rose (S.faults shelf.old) (S.faults shelf.new);
-    })
-        (asked words.now)) (K.written out.old) (K.written out.new) result }
-    ensures part { result ≡ Status.WriteFault → WritesPart (Answers (record {
-      holds = S.holds shelf.old;
-      rest = S.rest shelf.new;
-      missed = Rose (S.misses shelf.old) (S.misses shelf.new);
-      faulted = Rose (S.faults shelf.old) (S.faults shelf.new);
-    })
-        (asked words.now)) (K.written out.old) (K.written out.new) (K.sure out.old) }
+    ensures written { result ≢ Status.WriteFault → result ≢ Status.NoMemory → WritesDue (Answers (asked words.now) (outside_of (S.holds shelf.old) (S.rest shelf.new)
+        (Rose (S.misses shelf.old) (S.misses shelf.new)) (Rose (S.faults shelf.old) (S.faults shelf.new)))) (K.written out.old) (K.written out.new) result }
+    ensures part { result ≡ Status.WriteFault → WritesPart (Answers (asked words.now) (outside_of (S.holds shelf.old) (S.rest shelf.new)
+        (Rose (S.misses shelf.old) (S.misses shelf.new)) (Rose (S.faults shelf.old) (S.faults shelf.new)))) (K.written out.old) (K.written out.new) (K.sure out.old) }
     ensures nothing { result ≡ Status.NoMemory → out.new ≡ out.old }
 
     // When each refusal comes.
