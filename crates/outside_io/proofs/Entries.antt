@@ -1,5 +1,5 @@
 -- Looking a name up in a list of names and bytes, entry by entry.
-use Rattle.std.proofs.Common.{◌≡◌, ℕ, suc, ◌+◌, ◌<◌, ◌≤◌, Bool, true, false, List, [], ◌∷◌, length, drop, cond, nat_eq, get_or, slice_index_or, Option, Some, None, ap, sym, ◌∙◌, refl, add-one}
+use Rattle.std.proofs.Common.{◌≡◌, ℕ, suc, ◌+◌, ◌<◌, ◌≤◌, true, false, List, [], length, drop, cond, nat_eq, get_or, Option, Some, None, ap, sym, ◌∙◌, refl, add-one}
 use Rattle.std.proofs.Math.Seq.{drop-cons}
 use Rattle.std.proofs.lemmas.List.{drop_all, get_or_default}
 use Rattle.std.specs.FinMap as map

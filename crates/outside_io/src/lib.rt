@@ -22,3 +22,6 @@ pub use shelf::{Got, Opened, Shelf};
 pub use sink::{Put, Sink};
 pub use std_sink::StdSink;
 pub use whole::{ReadAns, Written, read_file, write_all};
+
+#[cfg(test)]
+mod tests;
