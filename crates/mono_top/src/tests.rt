@@ -11,6 +11,8 @@ use std::test::Fail;
 
 const EMPTY: &[u8] = b"network 1\n";
 
+const CERTIFICATE: &[u8] = b"certificate 1 optimal\ncost 0\nvalue 0\n";
+
 const USAGE: &[u8] = b"usage: monotropic COMMAND WORDS\n";
 
 /// One call: its words, over a source that holds the file `a` alone, and what comes of it.
@@ -18,20 +20,19 @@ const USAGE: &[u8] = b"usage: monotropic COMMAND WORDS\n";
 struct Row {
     words: &'static [&'static str],
     text: &'static [u8],
-    // The file is filled up to this length.
+    // The file is the text, filled up to this length.
     length: usize,
     // The calls of the source, then those of the sink, that fail.
     source_fails: &'static [u64],
     sink_fails: &'static [u64],
-    status: Status,
     code: u8,
     written: &'static [u8],
 }
 
-const fn plain_row(
+/// A row with the text as it is, in which no call fails.
+const fn plain(
     words: &'static [&'static str],
     text: &'static [u8],
-    status: Status,
     code: u8,
     written: &'static [u8],
 ) -> Row {
@@ -41,7 +42,6 @@ const fn plain_row(
         length: 0,
         source_fails: &[],
         sink_fails: &[],
-        status,
         code,
         written,
     }
@@ -75,64 +75,33 @@ fn outcome<L: Ledger>(
 #[test]
 fn rows(rt: HostRuntime) -> Result<(), Fail> {
     let rows = [
-        plain_row(
-            &["solve", "a"],
-            EMPTY,
-            Status::Done,
-            0,
-            b"certificate 1 optimal\ncost 0\nvalue 0\n",
-        ),
-        plain_row(
-            &["solve", "a"],
-            b"network 1",
-            Status::Unbuilt,
-            13,
-            b"unbuilt\n",
-        ),
-        plain_row(
-            &["solve", "b"],
-            EMPTY,
-            Status::Missing,
-            6,
-            b"missing file 1\n",
-        ),
-        plain_row(&["solve"], EMPTY, Status::Usage, 4, USAGE),
-        plain_row(&["solve", "a", "b"], EMPTY, Status::Usage, 4, USAGE),
-        plain_row(&["slove", "a"], EMPTY, Status::Usage, 4, USAGE),
-        plain_row(&[], EMPTY, Status::Usage, 4, USAGE),
-        Row {
-            length: FILE_MOST + 1,
-            ..plain_row(
-                &["solve", "a"],
-                EMPTY,
-                Status::TooLong,
-                10,
-                b"too long file 1\n",
-            )
-        },
+        plain(&["solve", "a"], EMPTY, 0, CERTIFICATE),
+        plain(&["solve", "a"], b"network 1", 13, b"unbuilt\n"),
+        plain(&["solve", "b"], EMPTY, 6, b"missing file 1\n"),
+        plain(&["solve"], EMPTY, 4, USAGE),
+        plain(&["solve", "a", "b"], EMPTY, 4, USAGE),
+        plain(&["slove", "a"], EMPTY, 4, USAGE),
+        plain(&[], EMPTY, 4, USAGE),
         Row {
             length: FILE_MOST,
-            ..plain_row(&["solve", "a"], EMPTY, Status::Unbuilt, 13, b"unbuilt\n")
+            ..plain(&["solve", "a"], EMPTY, 13, b"unbuilt\n")
+        },
+        Row {
+            length: FILE_MOST + 1,
+            ..plain(&["solve", "a"], EMPTY, 10, b"too long file 1\n")
         },
         Row {
             source_fails: &[2],
-            ..plain_row(
-                &["solve", "a"],
-                EMPTY,
-                Status::ReadFault,
-                7,
-                b"read fault file 1\n",
-            )
+            ..plain(&["solve", "a"], EMPTY, 7, b"read fault file 1\n")
         },
         Row {
             sink_fails: &[1],
-            ..plain_row(&["solve", "a"], EMPTY, Status::WriteFault, 8, b"cer")
+            ..plain(&["solve", "a"], EMPTY, 8, b"cer")
         },
     ];
     for row in &rows {
         let (status, out) = outcome::<Brand>(rt.alloc(), row, Blank::new(1))?;
-        assert_eq!(rt; status, row.status, "{:?}", row.words);
-        assert_eq!(rt; status.code(), row.code);
+        assert_eq!(rt; status.code(), row.code, "{:?}", row.words);
         assert_eq!(rt; out.bytes(), row.written);
     }
     Ok(())
