@@ -1,6 +1,7 @@
 pub mod Answer
 pub mod Causes
 pub mod Commands
+pub mod Due
 pub mod Ending
 pub mod Fetch
 pub mod Lines

@@ -1,5 +1,5 @@
 -- The files of a request, read one after the other.
-use Rattle.std.specs.Prelude.{◌≡◌, ◌⊎◌, ℕ, ◌+◌, ◌≤◌, List, [], ◌∷◌, ◌++◌, length, Option, Some, None, ⊤, All}
+use Rattle.std.specs.Prelude.{◌≡◌, ◌⊎◌, ℕ, ◌+◌, ◌≤◌, List, [], ◌∷◌, ◌++◌, length, Option, Some, None, ⊤}
 use Rattle.outside_io.specs.Files.{Files, file_of}
 use Rattle.outside_io.specs.Whole.{IsHeld, IsTooLong}
 
@@ -31,7 +31,8 @@ abbrev pub ReachesPastMost : Files → Option (List ℕ) → List (List ℕ) →
 ReachesPastMost files rest names = Reaches files (IsReadPastMost files rest) names
 
 abbrev pub AllReadable : Files → List (List ℕ) → Type 0
-AllReadable files names = All (IsReadable files) names
+AllReadable files [] = ⊤
+AllReadable files (name ∷ names) = IsReadable files name × AllReadable files names
 
 -- the first file, if there is one, is held
 abbrev pub HoldsFirst : Files → List (List ℕ) → Type 0
