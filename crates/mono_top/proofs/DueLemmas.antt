@@ -25,7 +25,7 @@ of_no_file outside status has_text held read short = record {
   faulted = λ e. absurd (read e);
   too_long = λ e. absurd (short e);
   too_long_always = λ files told reaches. absurd reaches;
-  readable = λ files told readable. (held, short)
+  readable = λ files told readable. (held, short);
 }
 
 -- two things that are said of one file's length do not go together
@@ -41,9 +41,10 @@ of_refused place name names outside status text (inl (is, line, missed, absent))
   faulted = λ e. cc (is, e);
   too_long = λ e. cc (is, e);
   too_long_always = λ files told reaches quiet. elim reaches [
-    inl long ↦ cc (absent files told, long.1)
-    | inr further ↦ cc (absent files told, further.0.1) ];
-  readable = λ files told readable. cc (absent files told, readable.0.1)
+    | inl long ↦ cc (absent files told, long.1)
+    | inr further ↦ cc (absent files told, further.0.1)
+  ];
+  readable = λ files told readable. cc (absent files told, readable.0.1);
 }
 of_refused place name names outside status text (inr (inl (is, line, faulted))) = record {
   has_text = ((λ e. cc (is, e)), (λ e. cc (is, e)));
@@ -52,7 +53,7 @@ of_refused place name names outside status text (inr (inl (is, line, faulted))) 
   faulted = λ e. faulted;
   too_long = λ e. cc (is, e);
   too_long_always = λ files told reaches quiet. absurd (quiet faulted);
-  readable = λ files told readable. ((λ e. cc (is, e)), (λ e. cc (is, e)))
+  readable = λ files told readable. ((λ e. cc (is, e)), (λ e. cc (is, e)));
 }
 of_refused place name names outside status text (inr (inr (is, line, past))) = record {
   has_text = ((λ e. cc (is, e)), (λ e. cc (is, e)));
@@ -61,10 +62,13 @@ of_refused place name names outside status text (inr (inr (is, line, past))) = r
   faulted = λ e. cc (is, e);
   too_long = λ e files told. inl (past files told);
   too_long_always = λ files told reaches quiet. is;
-  readable = λ files told readable. ((λ e. cc (is, e)), (λ e.
-    let p = past files told in
-    let same : readable.0.0 ≡ p.0 ++ p.1 = cc (p.3, readable.0.1) in
-    absurd (omega (arith, ap length same, length-append p.0 p.1, p.2, readable.0.2))))
+  readable = λ files told readable. (
+    (λ e. cc (is, e)),
+    (λ e.
+        let p = past files told in
+        let same : readable.0.0 ≡ p.0 ++ p.1 = cc (p.3, readable.0.1) in
+        absurd (omega (arith, ap length same, length-append p.0 p.1, p.2, readable.0.2))),
+  );
 }
 
 -- one file, and then the files after it
@@ -79,9 +83,10 @@ of_then place name names Next outside status text step (inr (bytes, held, short,
       faulted = after.faulted;
       too_long = λ e files told. inr ((bytes, held files told, short), after.too_long e files told);
       too_long_always = λ files told reaches quiet. elim reaches [
-        inl long ↦ absurd (not_both files name bytes (held files told) short long)
-        | inr further ↦ after.too_long_always files told further.1 quiet ];
-      readable = λ files told readable. after.readable files told readable.1
+        | inl long ↦ absurd (not_both files name bytes (held files told) short long)
+        | inr further ↦ after.too_long_always files told further.1 quiet
+      ];
+      readable = λ files told readable. after.readable files told readable.1;
     }
 
 -- a command's files are not refused as words that are no command
@@ -121,12 +126,12 @@ due None outside status text (is, line) = record {
   usage_always = λ e. is;
   of_files = of_no_file outside status ((λ e. cc (is, e)), (λ e. cc (is, e))) (λ e. cc (is, e)) (λ e. cc (is, e)) (λ e. cc (is, e));
   unbuilt = λ e. cc (is, e);
-  unbuilt_always = λ files told asks. absurd asks
+  unbuilt_always = λ files told asks. absurd asks;
 }
 due (Some (solve model)) outside status text answers = record {
   usage = λ e. absurd (listed_then First model Solves outside status text (λ bytes. listed_solves bytes status text) answers e);
   usage_always = λ e. cc;
   of_files = of_then First model [] Solves outside status text (λ bytes. of_solves outside bytes status text) answers;
   unbuilt = unbuilt_solve model outside status text answers;
-  unbuilt_always = unbuilt_always_solve model outside status text answers
+  unbuilt_always = unbuilt_always_solve model outside status text answers;
 }
