@@ -1,5 +1,5 @@
 -- What the work of a request ends with, before anything is written.
-use Rattle.std.specs.Prelude.{List, ℕ, Option, Some, None, Result, Ok, Err}
+use Rattle.std.specs.Prelude.{Option, Some, None, Result, Ok, Err}
 use Rattle.std.specs.Option.{ForSome}
 use Rattle.std.specs.declared.alloc.AllocError.{AllocError}
 use Rattle.mono_top.specs.Answer.{Outside, Answers}
