@@ -1,2 +1,4 @@
+mod Added
+pub mod Entries
 pub mod Grown
 mod Held
