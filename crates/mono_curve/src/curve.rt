@@ -1,7 +1,5 @@
 // A curve that keeps its list.
-ghost use Rattle.std.specs.Prelude.{◌≡◌, ◌↔◌, ◌<◌, ◌≤◌, ◌*◌, IsTrue, IfOk, IfErr, MatchOption, MatchResult, length};
-ghost use Rattle.theory.specs.Ends.{whole, is_below};
-ghost use Rattle.theory.specs.CurveList.{item};
+ghost use Rattle.std.specs.Prelude.{◌≡◌, ◌≤◌, ◌*◌, IfOk, IfErr, length};
 ghost use Rattle.theory.specs.Limits.{number_most, base_most};
 ghost use Rattle.theory.specs.Certificate.{IsWithin};
 ghost use Rattle.mono_curve.specs.CurveValue.{IsValidCurve, items_most};

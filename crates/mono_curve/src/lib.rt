@@ -9,6 +9,7 @@ mod limits;
 mod listed;
 mod monotone;
 mod pricing;
+pub mod reading_laws;
 mod steps;
 
 pub use curve::{Curve, to_curve};

@@ -1,0 +1,7 @@
+// A law of readings that is no part of a reading's own contract.
+ghost use Rattle.mono_curve.specs.ReadingLaws.{SlopesOfPiecesLaw};
+
+/// The slopes at a flow are those of the pieces on its two sides, with none left of the first point and right of the last.
+pub fn slopes_of_pieces()
+    ensures { SlopesOfPiecesLaw }
+{}
