@@ -2,7 +2,8 @@
 ghost use Rattle.std.specs.Prelude.{◌≤◌};
 ghost use Rattle.theory.specs.CurveList.{IsCurveList};
 ghost use Rattle.theory.specs.Readings.{IsSlopes, IsRange};
-ghost use Rattle.mono_curve.specs.Halving.{IsTurn, IsSlopeBefore, count_from, is_item_below, is_item_up_to};
+ghost use Rattle.mono_curve.specs.Halving.{IsTurn, count_from, is_item_below, is_item_up_to};
+ghost use Rattle.mono_curve.specs.Halving.{IsSlopeBefore};
 
 use crate::faults::precedes;
 use theory::Ext;

@@ -1,4 +1,4 @@
-// Curves: convex piecewise-linear costs that are read as steps, flow by flow and tension by tension.
+// Curves: convex piecewise-linear costs, read flow by flow and tension by tension.
 #![tactic(auto)]
 
 mod curve;

@@ -15,7 +15,7 @@ use std::test::Fail;
 use theory::Ext::{self, At, MinusInf, PlusInf};
 use theory::pricing::is_between;
 
-/// A curve with a flow and a tension, and what is read there. A flow outside the domain has no cost.
+/// A curve with a flow and a tension, and what is read there. Outside the domain there is no cost.
 #[derive(Clone, Copy)]
 struct Row {
     items: &'static [Ext],
