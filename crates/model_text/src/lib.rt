@@ -1,0 +1,8 @@
+//! The model text: names, the model, its printed form, and the reader that names the first bad line.
+#![tactic(auto)]
+
+mod name;
+mod print;
+
+pub use name::{NAME_MOST, Name, NameFault, is_name};
+pub use print::{append_end, append_list, append_number, append_word};
