@@ -7,7 +7,7 @@ use Rattle.theory.specs.declared.ext.Ext.{Ext}
 use Rattle.theory.specs.declared.ext.Ext.TheVariants.{MinusInf, At, PlusInf}
 use Rattle.theory.specs.Ends.{IsBelow, IsBetween, IsPast, IsBefore}
 use Rattle.theory.specs.Domain.{raised, lowered, clip}
-use Rattle.theory.proofs.Rings.{scale_mono, scale_strict, int_min-scale, int_max-scale}
+use Rattle.theory.proofs.Rings.{scale_mono, scale_strict, one_times, int_min-scale, int_max-scale}
 
 pub raised_least : (q : ℕ) (e : Ext) (x : ℤ) → x ≤ℤ raised q e x
 raised_least q MinusInf x = omega (arith, ints)
@@ -93,9 +93,6 @@ clip_same q PlusInf (At b) x within = omega (arith, ints, clamps, within)
 clip_same q PlusInf PlusInf x within = refl
 
 -- ---- scaling
-
-one_times : (x : ℤ) → pos 1 *ℤ x ≡ x
-one_times x = omega (arith, ints)
 
 raised-scale : (q : ℕ) (e : Ext) (x : ℤ) → raised q e (pos q *ℤ x) ≡ pos q *ℤ raised 1 e x
 raised-scale q MinusInf x = refl

@@ -5,6 +5,8 @@ pub mod SumsBelow
 -- Curve lists:
 pub mod Ends
 pub mod Shape
+pub mod Places
+pub mod Bounds
 pub mod Clip
 -- Laws of curves:
 pub mod Scaling
@@ -23,3 +25,5 @@ pub mod ReversedList
 pub mod ZeroCost
 pub mod ConjugateList
 pub mod ReversedCost
+pub mod Rounding
+pub mod Level

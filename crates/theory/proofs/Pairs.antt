@@ -1,13 +1,13 @@
 -- Pairs of the curve. Each tension of the span has a flow, which is a listed point: the point before the first slope
 -- that is not below the tension, else the last point. Each flow of the domain has a tension, which is a slope: that of
 -- the first piece that doesn't end before the flow.
-use Rattle.std.proofs.Common.{ℕ, true, false, ℤ, pos, ◌≤ℤ◌, ◌<ℤ◌, List, [], ◌∷◌, refl, ◌≡◌, arith}
+use Rattle.std.proofs.Common.{ℕ, true, false, ℤ, pos, ◌≤ℤ◌, ◌<ℤ◌, List, [], ◌∷◌, ◌≡◌, arith}
 use Rattle.std.specs.Prelude.{◌*ℤ◌, if◌then◌else◌}
 use Rattle.std.proofs.lemmas.Int.{ints, by_lt_z}
 use Rattle.theory.specs.declared.ext.Ext.{Ext}
 use Rattle.theory.specs.declared.ext.Ext.TheVariants.{MinusInf, At, PlusInf}
 use Rattle.theory.specs.Ends.{is_finite, IsBelow, IsAtLeast, IsAtMost, IsBefore}
-use Rattle.theory.specs.CurveList.{Piece, pieces, first, last, before_last}
+use Rattle.theory.specs.CurveList.{pieces, first, last, before_last}
 use Rattle.theory.specs.Domain.{InDomain}
 use Rattle.theory.specs.Span.{InSpan}
 use Rattle.theory.specs.Sums.{Each}
@@ -45,12 +45,14 @@ most_last q x ends most = most
 most_last q x (goes_on {b = b} {r = r} rises next more) most = most_last q x more (most_after q b r x next most)
 
 -- ---- the pieces from a point on, at a flow that is not past it and a tension that is not above the slope before it
-pub later_fits : (q : ℕ) (x w : ℤ) {s : ℤ} {m : Ext} {rest : List Ext} → Rest s m rest → IsAtMost q m x → w ≤ℤ (pos q *ℤ s) → Each (FitsPiece q x w) (pieces (m ∷ rest))
+pub later_fits : (q : ℕ) (x w : ℤ) {s : ℤ} {m : Ext} {rest : List Ext} → Rest s m rest → IsAtMost q m x
+    → w ≤ℤ (pos q *ℤ s) → Each (FitsPiece q x w) (pieces (m ∷ rest))
 later_fits q x w ends most flat = tt
 later_fits q x w (goes_on {s = s} {t = t} {b = b} {r = r} rises next more) most flat =
-    let steeper = scale_mono q s t (omega (arith, ints)) in
-    (record { begins_below = λ past. absurd (omega (arith, ints)); ends_above = λ before. omega (arith, ints) },
-    later_fits q x w more (most_after q b r x next most) (omega (arith, ints)))
+    let steeper = scale_mono q s t (omega (arith, ints)) in (
+      record { begins_below = λ past. absurd (omega (arith, ints)); ends_above = λ before. omega (arith, ints) },
+      later_fits q x w more (most_after q b r x next most) (omega (arith, ints)),
+    )
 
 -- ---- the flow of a tension
 
@@ -79,7 +81,8 @@ record Turn (q : ℕ) (w : ℤ) (items : List Ext) : Type 0 where
 abbrev pub high_from : Ext → List Ext → Ext
 high_from s points = if is_finite (last points) then PlusInf else before_last (s ∷ points)
 
-turn_rest : (q : ℕ) (w : ℤ) {s : ℤ} {m : Ext} {rest : List Ext} → Rest s m rest → (pos q *ℤ s) <ℤ w → IsAtMost q (high_from (At s) (m ∷ rest)) w → Turn q w (m ∷ rest)
+turn_rest : (q : ℕ) (w : ℤ) {s : ℤ} {m : Ext} {rest : List Ext} → Rest s m rest → (pos q *ℤ s) <ℤ w
+    → IsAtMost q (high_from (At s) (m ∷ rest)) w → Turn q w (m ∷ rest)
 turn_rest q w (ends {m = MinusInf}) steep high = absurd (omega (arith, ints))
 turn_rest q w (ends {m = At b}) steep high =
     record { point = b; listed = here; not_before = λ before. omega (arith, ints); most = omega (arith, ints); fits = tt }
@@ -113,49 +116,51 @@ pub record FlowOf (q : ℕ) (items : List Ext) (w : ℤ) : Type 0 where
   pub listed : IsAmong point (listed_points items)
   pub on_curve : IsOnCurve q items (pos q *ℤ point) w
 
-after_turn : (q : ℕ) (w : ℤ) {l m : Ext} {s : ℤ} {rest : List Ext} → IsBelow l m → (pos q *ℤ s) <ℤ w → Turn q w (m ∷ rest) → FlowOf q (l ∷ At s ∷ m ∷ rest) w
+after_turn : (q : ℕ) (w : ℤ) {l m : Ext} {s : ℤ} {rest : List Ext} → IsBelow l m → (pos q *ℤ s) <ℤ w
+    → Turn q w (m ∷ rest) → FlowOf q (l ∷ At s ∷ m ∷ rest) w
 after_turn q w {l = l} {m = m} {rest = rest} below steep turn =
     record {
       point = turn.point;
       listed = among_or _ (among_with l (finite_points (m ∷ rest)) turn.listed);
       on_curve =
-        record {
-          in_domain = record { least = least_before q l m (pos q *ℤ turn.point) below turn.not_before; most = turn.most };
-          on_pieces = (record { begins_below = λ past. omega (arith, ints); ends_above = λ before. absurd (turn.not_before before) }, turn.fits);
-        };
+          record {
+            in_domain = record { least = least_before q l m (pos q *ℤ turn.point) below turn.not_before; most = turn.most };
+            on_pieces = (record { begins_below = λ past. omega (arith, ints); ends_above = λ before. absurd (turn.not_before before) }, turn.fits);
+          };
     }
 
-at_first : (q : ℕ) (w : ℤ) (l m : Ext) (s : ℤ) (rest : List Ext) → IsBelow l m → Rest s m rest → w ≤ℤ (pos q *ℤ s) → InSpan q (l ∷ At s ∷ m ∷ rest) w → FlowOf q (l ∷ At s ∷ m ∷ rest) w
+at_first : (q : ℕ) (w : ℤ) (l m : Ext) (s : ℤ) (rest : List Ext) → IsBelow l m → Rest s m rest → w ≤ℤ (pos q *ℤ s)
+    → InSpan q (l ∷ At s ∷ m ∷ rest) w → FlowOf q (l ∷ At s ∷ m ∷ rest) w
 at_first q w (At a) m s rest below more flat span =
     let next_most = most_after q a m (pos q *ℤ a) below (omega (arith, ints)) in
     record {
       point = a;
       listed = here;
       on_curve =
-        record {
-          in_domain = record { least = omega (arith, ints); most = most_last q (pos q *ℤ a) more next_most };
-          on_pieces = (record { begins_below = λ past. absurd (omega (arith, ints)); ends_above = λ before. flat }, later_fits q (pos q *ℤ a) w more next_most flat);
-        };
+          record {
+            in_domain = record { least = omega (arith, ints); most = most_last q (pos q *ℤ a) more next_most };
+            on_pieces = (record { begins_below = λ past. absurd (omega (arith, ints)); ends_above = λ before. flat }, later_fits q (pos q *ℤ a) w more next_most flat);
+          };
     }
 at_first q w MinusInf (At b) s rest below more flat span =
     record {
       point = b;
       listed = among_or _ (among_first b rest);
       on_curve =
-        record {
-          in_domain = record { least = tt; most = most_last q (pos q *ℤ b) more (omega (arith, ints)) };
-          on_pieces = (record { begins_below = λ past. span.least; ends_above = λ before. flat }, later_fits q (pos q *ℤ b) w more (omega (arith, ints)) flat);
-        };
+          record {
+            in_domain = record { least = tt; most = most_last q (pos q *ℤ b) more (omega (arith, ints)) };
+            on_pieces = (record { begins_below = λ past. span.least; ends_above = λ before. flat }, later_fits q (pos q *ℤ b) w more (omega (arith, ints)) flat);
+          };
     }
 at_first q w MinusInf PlusInf s _ below ends flat span =
     record {
       point = pos 0;
       listed = here;
       on_curve =
-        record {
-          in_domain = record { least = tt; most = tt };
-          on_pieces = (record { begins_below = λ past. span.least; ends_above = λ before. flat }, tt);
-        };
+          record {
+            in_domain = record { least = tt; most = tt };
+            on_pieces = (record { begins_below = λ past. span.least; ends_above = λ before. flat }, tt);
+          };
     }
 at_first q w MinusInf MinusInf s rest below more flat span = let h : false ≡ true = below in cc
 at_first q w PlusInf m s rest below more flat span = let h : false ≡ true = below in cc
@@ -205,8 +210,10 @@ tension_from q x l (goes_on {s = s} {t = t} {b = b} {r = r} {rest = rest} rises 
         record {
           slope = s;
           steep = omega (arith, ints);
-          fits = (record { begins_below = λ past. omega (arith, ints); ends_above = λ before. omega (arith, ints) },
-            later_fits q x (pos q *ℤ s) (goes_on rises next more) most (omega (arith, ints)));
+          fits = (
+            record { begins_below = λ past. omega (arith, ints); ends_above = λ before. omega (arith, ints) },
+            later_fits q x (pos q *ℤ s) (goes_on rises next more) most (omega (arith, ints)),
+          );
         }
 
 -- each flow of the domain has a slope as its tension

@@ -1,7 +1,7 @@
 -- Whole numbers under `omega`: products of sums, and the order of products.
 -- `ints` reads a whole number z as `up z - down z` and a product as the four products of these parts, but doesn't
 -- multiply a sum out within a product. The lemmas below do, at one sum or product within a product each.
-use Rattle.std.proofs.Common.{◌≡◌, ap, sym, ◌∙◌, ℕ, ◌+◌, ◌*◌, ◌≤◌, ◌<◌, arith}
+use Rattle.std.proofs.Common.{◌≡◌, refl, ap, ℕ, zero, suc, ◌+◌, ◌*◌, ◌≤◌, arith}
 use Rattle.std.specs.Prelude.{ℤ, pos, negsuc, ◌+ℤ◌, ◌*ℤ◌, neg_ℤ, ◌≤ℤ◌, ◌<ℤ◌}
 use Rattle.std.specs.Int.{int_min, int_max}
 use Rattle.std.proofs.lemmas.Int.{ints, clamps, by_lt_z}
@@ -54,7 +54,8 @@ mul_mul_is_left a b c =
     let h : down a * down (b *ℤ c) ≡ down a * (up b * down c + down b * up c) = ap (λ n. down a * n) (product_is b c).1 in
     omega (arith, product_is)
 
--- `omega (arith, rings)` proves equations and inequalities up to the third degree
+-- `omega (arith, rings)` proves equations and inequalities up to the third degree. A sum within a product of three is
+-- not multiplied out: prove the step with a variable in the sum's place.
 pub ruleset rings = (ints, mul_sum_is, sum_mul_is, mul_neg_is, neg_mul_is, mul_mul_is, mul_mul_is_left)
 
 -- ---- the order of products
@@ -85,9 +86,6 @@ pub mul_mono : (c a b : ℤ) → pos 0 ≤ℤ c → a ≤ℤ b → (c *ℤ a) �
 mul_mono (pos n) a b p h = scale_mono n a b h
 mul_mono (negsuc n) a b p h = absurd (omega (arith, ints))
 
-mul_zero : (a b : ℤ) → b ≡ pos 0 → pos 0 ≤ℤ (a *ℤ b)
-mul_zero a b e = rw e (omega (arith, ints))
-
 pub mul_positives : (a b : ℤ) → pos 0 ≤ℤ a → pos 0 ≤ℤ b → pos 0 ≤ℤ (a *ℤ b)
 mul_positives a b p h = let e = mul_mono a (pos 0) b p h in omega (arith, ints)
 
@@ -101,33 +99,26 @@ mul_strict (negsuc n) b p h = absurd (omega (arith, ints))
 pub mul_strict_negatives : (a b : ℤ) → a <ℤ pos 0 → b <ℤ pos 0 → pos 0 <ℤ (a *ℤ b)
 mul_strict_negatives a b p h = let e = mul_strict (neg_ℤ a) (neg_ℤ b) (omega (arith, ints)) (omega (arith, ints)) in omega (arith, rings)
 
+times_zero : (a b : ℤ) → b ≡ pos 0 → pos 0 ≤ℤ (a *ℤ b)
+times_zero a b e = rw e (omega (arith, ints))
+
 -- where the signs of two factors agree, the product is not negative
 pub mul_agreeing : (a b : ℤ) → (pos 0 <ℤ b → pos 0 ≤ℤ a) → (b <ℤ pos 0 → a ≤ℤ pos 0) → pos 0 ≤ℤ (a *ℤ b)
-mul_agreeing a b up_sign down_sign =
-    by_lt_z
-    (pos 0)
-    b
-    (λ above. mul_positives a b (up_sign above) (omega (arith, ints)))
-    (λ not_above. by_lt_z b (pos 0) (λ below. mul_negatives a b (down_sign below) not_above) (λ not_below. mul_zero a b (omega (arith, ints))))
+mul_agreeing a b above below = by_lt_z (pos 0) b (λ up_sign. mul_positives a b (above up_sign) (omega (arith, ints))) not_above
+  where
+    not_above : b ≤ℤ pos 0 → pos 0 ≤ℤ (a *ℤ b)
+    not_above most = by_lt_z b (pos 0) (λ down_sign. mul_negatives a b (below down_sign) most) (λ least. times_zero a b (omega (arith, ints)))
 
--- a product of 0 has a factor 0
-pub mul_zero_left : (a b : ℤ) → a *ℤ b ≡ pos 0 → ¬ (b ≡ pos 0) → a ≡ pos 0
-mul_zero_left a b e apart =
-    by_lt_z
-    (pos 0)
-    a
-    (λ above. absurd (by_lt_z (pos 0) b (λ up_b. let m = mul_strict a b above up_b in omega (arith, ints)) (λ l. let m = mul_strict a (neg_ℤ b) above (omega (arith, ints)) in omega (arith, rings))))
-    (λ not_above.
-      by_lt_z
-      a
-      (pos 0)
-      (λ below. absurd (by_lt_z (pos 0) b (λ up_b. let m = mul_strict (neg_ℤ a) b (omega (arith, ints)) up_b in omega (arith, rings)) (λ l. let m = mul_strict_negatives a b below (omega (arith, ints)) in omega (arith, ints))))
-      (λ not_below. omega (arith, ints)))
-
+-- the other factor of a product of 0
 pub mul_zero_right : (a b : ℤ) → a *ℤ b ≡ pos 0 → ¬ (a ≡ pos 0) → b ≡ pos 0
-mul_zero_right a b e apart = mul_zero_left b a (omega (arith, ints)) apart
+mul_zero_right (pos zero) b e apart = absurd (apart refl)
+mul_zero_right (pos (suc n)) b e apart = scale_cancel_equal (suc n) b (pos 0) (omega arith) (omega (arith, ints))
+mul_zero_right (negsuc n) b e apart = scale_cancel_equal (suc n) b (pos 0) (omega arith) (omega (arith, ints))
 
--- ---- the greater and the lesser of two products
+-- ---- by 1, and the greater and the lesser of two products
+
+pub one_times : (x : ℤ) → pos 1 *ℤ x ≡ x
+one_times x = omega (arith, ints)
 
 greater_left : (a b : ℤ) → b ≤ℤ a → int_max a b ≡ a
 greater_left a b h = omega (arith, ints, clamps)
@@ -136,12 +127,13 @@ greater_right : (a b : ℤ) → a ≤ℤ b → int_max a b ≡ b
 greater_right a b h = omega (arith, ints, clamps)
 
 pub int_max-scale : (n : ℕ) (a b : ℤ) → int_max (pos n *ℤ a) (pos n *ℤ b) ≡ pos n *ℤ int_max a b
-int_max-scale n a b =
-    by_lt_z
-    a
-    b
-    (λ l. let m : a ≤ℤ b = omega (arith, ints) in greater_right (pos n *ℤ a) (pos n *ℤ b) (scale_mono n a b m) ∙ ap (λ z. pos n *ℤ z) (sym (greater_right a b m)))
-    (λ m. greater_left (pos n *ℤ a) (pos n *ℤ b) (scale_mono n b a m) ∙ ap (λ z. pos n *ℤ z) (sym (greater_left a b m)))
+int_max-scale n a b = by_lt_z b a (λ less. left (omega (arith, ints))) right
+  where
+    left : b ≤ℤ a → int_max (pos n *ℤ a) (pos n *ℤ b) ≡ pos n *ℤ int_max a b
+    left h = rw (greater_left a b h) (greater_left (pos n *ℤ a) (pos n *ℤ b) (scale_mono n b a h))
+
+    right : a ≤ℤ b → int_max (pos n *ℤ a) (pos n *ℤ b) ≡ pos n *ℤ int_max a b
+    right h = rw (greater_right a b h) (greater_right (pos n *ℤ a) (pos n *ℤ b) (scale_mono n a b h))
 
 lesser_left : (a b : ℤ) → a ≤ℤ b → int_min a b ≡ a
 lesser_left a b h = omega (arith, ints, clamps)
@@ -150,9 +142,10 @@ lesser_right : (a b : ℤ) → b ≤ℤ a → int_min a b ≡ b
 lesser_right a b h = omega (arith, ints, clamps)
 
 pub int_min-scale : (n : ℕ) (a b : ℤ) → int_min (pos n *ℤ a) (pos n *ℤ b) ≡ pos n *ℤ int_min a b
-int_min-scale n a b =
-    by_lt_z
-    a
-    b
-    (λ l. let m : a ≤ℤ b = omega (arith, ints) in lesser_left (pos n *ℤ a) (pos n *ℤ b) (scale_mono n a b m) ∙ ap (λ z. pos n *ℤ z) (sym (lesser_left a b m)))
-    (λ m. lesser_right (pos n *ℤ a) (pos n *ℤ b) (scale_mono n b a m) ∙ ap (λ z. pos n *ℤ z) (sym (lesser_right a b m)))
+int_min-scale n a b = by_lt_z b a (λ less. right (omega (arith, ints))) left
+  where
+    left : a ≤ℤ b → int_min (pos n *ℤ a) (pos n *ℤ b) ≡ pos n *ℤ int_min a b
+    left h = rw (lesser_left a b h) (lesser_left (pos n *ℤ a) (pos n *ℤ b) (scale_mono n a b h))
+
+    right : b ≤ℤ a → int_min (pos n *ℤ a) (pos n *ℤ b) ≡ pos n *ℤ int_min a b
+    right h = rw (lesser_right a b h) (lesser_right (pos n *ℤ a) (pos n *ℤ b) (scale_mono n b a h))

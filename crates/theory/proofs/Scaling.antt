@@ -1,15 +1,13 @@
 -- Scaling the fraction. Each move into a range scales with the number moved, since the ends are taken q times: so
 -- each piece's rise does, the cost, and each of the values among which the conjugate cost is the greatest.
-use Rattle.std.proofs.Common.{◌≡◌, ℕ, ◌≤◌, ℤ, pos, ◌+ℤ◌, sym, ap, ◌∙◌, arith}
+use Rattle.std.proofs.Common.{◌≡◌, ℕ, ℤ, pos, sym, ap, ◌∙◌, arith}
 use Rattle.std.specs.Prelude.{◌-ℤ◌, ◌*ℤ◌}
-use Rattle.std.proofs.lemmas.Int.{ints}
 use Rattle.theory.specs.CurveList.{Listing, Piece, pieces}
-use Rattle.theory.specs.Domain.{clip, rest_point}
-use Rattle.theory.specs.Sums.{sum_over}
+use Rattle.theory.specs.Domain.{rest_point}
 use Rattle.theory.specs.Cost.{rise, cost}
 use Rattle.theory.specs.ConjugateCost.{listed_points, conjugate_cost}
 use Rattle.theory.specs.CurveLaws.{ScalingLaw}
-use Rattle.theory.proofs.Rings.{rings}
+use Rattle.theory.proofs.Rings.{rings, one_times}
 use Rattle.theory.proofs.Sums.{sum_over-scale, greatest_over-scale}
 use Rattle.theory.proofs.Clip.{clip-scale}
 
@@ -23,9 +21,6 @@ spread q s a b x y e f =
 
 pub rise-scale : (q : ℕ) (x y : ℤ) (k : Piece) → rise q (pos q *ℤ x) (pos q *ℤ y) k ≡ pos q *ℤ rise 1 x y k
 rise-scale q x y k = spread (pos q) k.slope _ _ _ _ (clip-scale q k.left k.right y) (clip-scale q k.left k.right x)
-
-one_times : (x : ℤ) → pos 1 *ℤ x ≡ x
-one_times x = omega (arith, ints)
 
 pub cost-scale : (q : ℕ) (c : Listing) (x : ℤ) → cost q c (pos q *ℤ x) ≡ pos q *ℤ cost 1 c x
 cost-scale q c x =

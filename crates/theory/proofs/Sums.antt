@@ -1,5 +1,5 @@
 -- Sums and greatest values over a list, and facts of each element.
-use Rattle.std.proofs.Common.{◌≡◌, ℕ, ℤ, pos, ◌+ℤ◌, ◌≤ℤ◌, List, [], ◌∷◌, refl, ap, arith}
+use Rattle.std.proofs.Common.{◌≡◌, ℕ, ℤ, pos, ◌+ℤ◌, ◌≤ℤ◌, List, [], ◌∷◌, refl, arith}
 use Rattle.std.specs.Prelude.{◌*ℤ◌}
 use Rattle.std.proofs.lemmas.Int.{ints, clamps}
 use Rattle.theory.specs.Sums.{sum_over, greatest_over, Each}
@@ -21,7 +21,8 @@ pub sum_over-same : {A : Type 0} (f g : A → ℤ) (xs : List A) → ((x : A) �
 sum_over-same f g [] same = refl
 sum_over-same f g (x ∷ xs) same = let e = same x in let more = sum_over-same f g xs same in omega (arith, ints)
 
-pub sum_over-add : {A : Type 0} (f g h : A → ℤ) (xs : List A) → ((x : A) → f x ≡ g x +ℤ h x) → sum_over f xs ≡ sum_over g xs +ℤ sum_over h xs
+pub sum_over-add : {A : Type 0} (f g h : A → ℤ) (xs : List A) → ((x : A) → f x ≡ g x +ℤ h x)
+    → sum_over f xs ≡ sum_over g xs +ℤ sum_over h xs
 sum_over-add f g h [] same = refl
 sum_over-add f g h (x ∷ xs) same = let e = same x in let more = sum_over-add f g h xs same in omega (arith, ints)
 
@@ -63,7 +64,8 @@ pub greatest_most : (f : ℤ → ℤ) (z x : ℤ) (xs : List ℤ) → Each (λ y
 greatest_most f z x [] each = each.0
 greatest_most f z x (y ∷ ys) each = let here = each.0 in let more = greatest_most f z y ys each.1 in omega (arith, ints, clamps)
 
-pub greatest_over-scale : (n : ℕ) (f g : ℤ → ℤ) (xs : List ℤ) → ((x : ℤ) → f x ≡ pos n *ℤ g x) → greatest_over f xs ≡ pos n *ℤ greatest_over g xs
+pub greatest_over-scale : (n : ℕ) (f g : ℤ → ℤ) (xs : List ℤ) → ((x : ℤ) → f x ≡ pos n *ℤ g x)
+    → greatest_over f xs ≡ pos n *ℤ greatest_over g xs
 greatest_over-scale n f g [] same = omega (arith, ints)
 greatest_over-scale n f g (x ∷ []) same = same x
 greatest_over-scale n f g (x ∷ y ∷ ys) same = rw (same x, greatest_over-scale n f g (y ∷ ys) same) (int_max-scale n (g x) (greatest_over g (y ∷ ys)))

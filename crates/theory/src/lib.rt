@@ -9,6 +9,7 @@ pub mod examples;
 mod ext;
 mod network;
 pub mod network_laws;
+pub mod pricing;
 pub mod view_laws;
 
 pub use colour::Colour;

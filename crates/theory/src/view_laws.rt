@@ -1,6 +1,6 @@
 // Laws of the derived curves: conjugate, reversed, zero-cost and level lists.
 
-ghost use Rattle.theory.specs.ViewLaws.{ConjugateLaw, ConjugatePairLaw, ReversedLaw, ReversedTwiceLaw, ReversedCostLaw, ReversedConjugateCostLaw, ZeroCostLaw};
+ghost use Rattle.theory.specs.ViewLaws.{ConjugateLaw, ConjugatePairLaw, ReversedLaw, ReversedTwiceLaw, ReversedCostLaw, ReversedConjugateCostLaw, ZeroCostLaw, LevelLaw, LevelZeroLaw};
 
 /// The conjugate list is a curve; its domain is the span and its span is the domain.
 pub fn conjugate_is_list()
@@ -35,4 +35,14 @@ pub fn reversed_conjugate_cost()
 /// The zero-cost list of a curve is a curve.
 pub fn zero_cost_is_list()
     ensures { ZeroCostLaw }
+{}
+
+/// Each level of a curve is a curve.
+pub fn level_is_list()
+    ensures { LevelLaw }
+{}
+
+/// Level 0 of a curve is the curve.
+pub fn level_zero()
+    ensures { LevelZeroLaw }
 {}
