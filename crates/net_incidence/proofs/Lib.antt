@@ -2,3 +2,4 @@ pub mod Rows
 pub mod Incident
 pub mod Divergence
 pub mod BadSteps
+pub mod SumParts

@@ -4,3 +4,6 @@ pub mod Incidence
 -- Along a step, and where a walk fails:
 pub mod FlowAlong
 pub mod BadStep
+-- Sums of ends:
+pub mod PartOf
+pub mod SumAnswers

@@ -2,11 +2,14 @@
 #![tactic(auto)]
 
 mod circuit;
+mod ends;
 mod flow;
 mod incidence;
 mod lists;
 mod net;
+mod sums;
 
 pub use lists::{Flows, Marks, Walk};
 pub use net::{Net, NetFault};
+pub use sums::Sum;
 pub use theory::{Arc, ArcId, NodeId, Step};
