@@ -13,3 +13,6 @@ pub use lists::{Flows, Marks, Walk};
 pub use net::{Net, NetFault};
 pub use sums::Sum;
 pub use theory::{Arc, ArcId, NodeId, Step};
+
+#[cfg(test)]
+mod tests;
