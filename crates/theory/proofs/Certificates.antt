@@ -1,5 +1,5 @@
 -- What a valid certificate says. An optimal pair is on its curves, so both halves are feasible and the optimal pair law
--- speaks of them; a cut and a circuit are refusals by their own laws. Two certificates of different kinds contradict each
+-- speaks of them; of a cut and a circuit their own laws speak. Two certificates of different kinds contradict each
 -- other: an optimum and an unbounded plan both have a feasible flow, which a cut refuses, and an optimum has a feasible
 -- potential, which a circuit refuses.
 use Rattle.std.proofs.Common.{sym, ◌∙◌, arith}
@@ -11,6 +11,7 @@ use Rattle.theory.specs.CertificateLaws.{Says, CertificateLaw, IsSameKind, OneKi
 use Rattle.theory.proofs.Equality.{fenchel_equality}
 use Rattle.theory.proofs.Duality.{optimal_pair}
 use Rattle.theory.proofs.Refusals.{negative_cut, negative_circuit}
+use Rattle.theory.proofs.Unbounded.{unbounded}
 
 pub certificate_says : CertificateLaw
 certificate_says net (optimal x u cost value) good valid =
@@ -35,6 +36,7 @@ certificate_says net (cut side capacity) good valid = negative_cut net side good
 certificate_says net (circuit x walk span) good valid =
     record {
       flow = valid.shows.0;
+      no_bound = unbounded net x walk good valid.shows.0 valid.fits.0.1.there valid.shows.1;
       no_potential = negative_circuit net walk good valid.fits.0.1.there valid.shows.1;
     }
 

@@ -14,16 +14,20 @@ pub mod Pairs
 pub mod Fenchel
 pub mod Equality
 pub mod Whole
--- Networks:
+-- Derived curves:
+pub mod ReversedList
+pub mod ReversedPairs
+pub mod ReversedCost
+pub mod ZeroCost
+pub mod ConjugateList
+pub mod Parts
+pub mod ConjugateCost
+pub mod Rounding
+pub mod Level
+-- Networks and certificates:
 pub mod SumLaw
 pub mod Duality
 pub mod Refusals
+pub mod Unbounded
 pub mod Certificates
 pub mod GroundedLaw
--- Derived curves:
-pub mod ReversedList
-pub mod ZeroCost
-pub mod ConjugateList
-pub mod ReversedCost
-pub mod Rounding
-pub mod Level

@@ -1,6 +1,7 @@
 -- Sums and greatest values over a list, and facts of each element.
-use Rattle.std.proofs.Common.{◌≡◌, ℕ, ℤ, pos, ◌+ℤ◌, ◌≤ℤ◌, List, [], ◌∷◌, refl, arith}
+use Rattle.std.proofs.Common.{◌≡◌, ℕ, ℤ, pos, ◌+ℤ◌, ◌≤ℤ◌, List, [], ◌∷◌, refl, ap₂, arith}
 use Rattle.std.specs.Prelude.{◌*ℤ◌}
+use Rattle.std.specs.Int.{int_max}
 use Rattle.std.proofs.lemmas.Int.{ints, clamps}
 use Rattle.theory.specs.Sums.{sum_over, greatest_over, Each}
 use Rattle.theory.proofs.Rings.{rings, int_max-scale}
@@ -20,6 +21,10 @@ Each-zip P Q R (x ∷ xs) f left right = (f x left.0 right.0, Each-zip P Q R xs 
 pub sum_over-same : {A : Type 0} (f g : A → ℤ) (xs : List A) → ((x : A) → f x ≡ g x) → sum_over f xs ≡ sum_over g xs
 sum_over-same f g [] same = refl
 sum_over-same f g (x ∷ xs) same = let e = same x in let more = sum_over-same f g xs same in omega (arith, ints)
+
+pub sum_over-each : {A : Type 0} (P : A → Type 0) (f g : A → ℤ) (xs : List A) → Each P xs → ((x : A) → P x → f x ≡ g x) → sum_over f xs ≡ sum_over g xs
+sum_over-each P f g [] each same = refl
+sum_over-each P f g (x ∷ xs) each same = let e = same x each.0 in let more = sum_over-each P f g xs each.1 same in omega (arith, ints)
 
 pub sum_over-add : {A : Type 0} (f g h : A → ℤ) (xs : List A) → ((x : A) → f x ≡ g x +ℤ h x)
     → sum_over f xs ≡ sum_over g xs +ℤ sum_over h xs
@@ -63,6 +68,11 @@ greatest_at f (later {xs = y ∷ ys} among) = let most = greatest_at f among in 
 pub greatest_most : (f : ℤ → ℤ) (z x : ℤ) (xs : List ℤ) → Each (λ y. f y ≤ℤ z) (x ∷ xs) → greatest_over f (x ∷ xs) ≤ℤ z
 greatest_most f z x [] each = each.0
 greatest_most f z x (y ∷ ys) each = let here = each.0 in let more = greatest_most f z y ys each.1 in omega (arith, ints, clamps)
+
+pub greatest_over-same : (f g : ℤ → ℤ) (xs : List ℤ) → ((x : ℤ) → f x ≡ g x) → greatest_over f xs ≡ greatest_over g xs
+greatest_over-same f g [] same = refl
+greatest_over-same f g (x ∷ []) same = same x
+greatest_over-same f g (x ∷ y ∷ ys) same = ap₂ int_max (same x) (greatest_over-same f g (y ∷ ys) same)
 
 pub greatest_over-scale : (n : ℕ) (f g : ℤ → ℤ) (xs : List ℤ) → ((x : ℤ) → f x ≡ pos n *ℤ g x)
     → greatest_over f xs ≡ pos n *ℤ greatest_over g xs

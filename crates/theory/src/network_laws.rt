@@ -1,6 +1,6 @@
 // The laws of networks. Each function does nothing: its contract is the law.
 
-ghost use Rattle.theory.specs.NetworkLaws.{SumLaw, WeakDualityLaw, OptimalPairLaw, NegativeCutLaw, NegativeCircuitLaw};
+ghost use Rattle.theory.specs.NetworkLaws.{SumLaw, WeakDualityLaw, OptimalPairLaw, NegativeCutLaw, NegativeCircuitLaw, UnboundedLaw};
 
 /// A conserved flow is orthogonal to every tension.
 pub fn sum_law()
@@ -25,4 +25,9 @@ pub fn negative_cut()
 /// A negative circuit refuses every potential.
 pub fn negative_circuit()
     ensures { NegativeCircuitLaw }
+{}
+
+/// Where there is a feasible flow, a negative circuit leaves no plan bounded.
+pub fn unbounded()
+    ensures { UnboundedLaw }
 {}
