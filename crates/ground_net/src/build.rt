@@ -6,7 +6,7 @@ ghost use Rattle.ground_net.specs.Built.{IsBuilt};
 
 use crate::grounded::Grounded;
 use model_text::Model;
-use mono_curve::Curve;
+use mono_curve::{Curve, to_curve};
 use net_incidence::{Net, NetFault, NodeId};
 use std::alloc::{AllocError, Global};
 
@@ -81,10 +81,4 @@ fn add_arc(
     }
     curves.push(copy)?;
     Ok(())
-}
-
-fn to_curve(_alloc: Global, c: &Curve) -> Result<Curve, AllocError>
-    ensures { IfOk result (λ d. d.listing ≡ c.now.listing) }
-{
-    Err(AllocError)
 }

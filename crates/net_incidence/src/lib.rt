@@ -2,7 +2,6 @@
 #![tactic(auto)]
 
 mod circuit;
-mod ends;
 mod flow;
 mod incidence;
 mod lists;

@@ -6,9 +6,8 @@ ghost use Rattle.theory.specs.Circuit.{WalkIsThere};
 ghost use Rattle.net_incidence.specs.Graph.{bare, network};
 ghost use Rattle.net_incidence.specs.PartOf.{part_of, crossing_end, passing_end};
 
-use crate::ends::{domain_of, span_of};
 use crate::net::Net;
-use mono_curve::Listed;
+use mono_curve::{Listed, domain_of, span_of};
 use theory::{ArcId, Ext, Step};
 
 /// A sum of ends, or the first arc whose end is infinite.
@@ -33,7 +32,7 @@ impl Net {
             let arc = ArcId(j as u32);
             let at_tail = side[self.from(arc).0 as usize];
             let at_head = side[self.to(arc).0 as usize];
-            match cut_part(&curves[j], at_tail, at_head) {
+            match cut_part(&curves[arc.0 as usize], at_tail, at_head) {
                 Some(part) => sum += part,
                 None => return Sum::Endless(arc),
             }

@@ -16,7 +16,9 @@ fn net_of(rt: &(impl Abort + AllocGlobal), nodes: u32, arcs: &[(u32, u32)]) -> R
     }
     for (from, to) in arcs {
         let (from, to) = (*from, *to);
-        assert!(rt; (from as usize) < net.nodes() && (to as usize) < net.nodes() && net.arcs() < 1000);
+        assert!(rt;
+            (from as usize) < net.nodes() && (to as usize) < net.nodes() && net.arcs() < 1000
+        );
         net.add_arc(NodeId(from), NodeId(to))?;
     }
     Ok(net)
@@ -96,7 +98,7 @@ fn adds_up_cuts(rt: HostRuntime) -> Result<(), Fail> {
         let curves = vec![in rt.alloc();
             Curve::of_list(rt.alloc(), supply, 0)?,
             Curve::of_list(rt.alloc(), &[Ext::At(-5)], 0)?,
-            Curve::of_list(rt.alloc(), &[Ext::At(0), Ext::At(1), Ext::At(3)], 0)?
+            Curve::of_list(rt.alloc(), &[Ext::At(0), Ext::At(1), Ext::At(3)], 0)?,
         ]?;
         assert!(rt; net.nodes() == 3 && net.arcs() == 3 && curves.len() == 3);
         assert_eq!(rt; net.cut_sum(curves.as_slice(), &[false, true, false]), want);
@@ -112,21 +114,37 @@ fn tells_circuits(rt: HostRuntime) -> Result<(), Fail> {
         Curve::of_list(rt.alloc(), &[Ext::At(0)], 0)?,
         Curve::of_list(rt.alloc(), &[Ext::At(0)], 0)?,
         Curve::of_list(rt.alloc(), &[Ext::At(0), Ext::At(-3), Ext::PlusInf], 0)?,
-        Curve::of_list(rt.alloc(), &[Ext::At(0), Ext::At(1), Ext::PlusInf], 0)?
+        Curve::of_list(rt.alloc(), &[Ext::At(0), Ext::At(1), Ext::PlusInf], 0)?,
     ]?;
     assert!(rt; curves.len() == net.arcs());
     for (walk, fault, sum) in [
         ([].as_slice(), Some(1), Sum::Whole(0)),
         ([forward(2), forward(3)].as_slice(), None, Sum::Whole(-2)),
         ([forward(2)].as_slice(), Some(2), Sum::Whole(-3)),
-        ([forward(2), forward(3), forward(2), forward(3)].as_slice(), Some(3), Sum::Whole(-4)),
-        ([forward(2), backward(2)].as_slice(), Some(2), Sum::Endless(ArcId(2))),
+        (
+            [forward(2), forward(3), forward(2), forward(3)].as_slice(),
+            Some(3),
+            Sum::Whole(-4),
+        ),
+        (
+            [forward(2), backward(2)].as_slice(),
+            Some(2),
+            Sum::Endless(ArcId(2)),
+        ),
         ([forward(3), forward(3)].as_slice(), Some(2), Sum::Whole(2)),
-        ([forward(2), backward(1), forward(0)].as_slice(), None, Sum::Endless(ArcId(1))),
+        (
+            [forward(2), backward(1), forward(0)].as_slice(),
+            None,
+            Sum::Endless(ArcId(1)),
+        ),
     ] {
         assert!(rt; walk.len() < 10 && are_there(&net, walk));
         assert_eq!(rt; net.is_circuit(walk), fault, "for {walk:?}");
-        assert_eq!(rt; net.circuit_sum(curves.as_slice(), walk), sum, "for {walk:?}");
+        assert_eq!(rt;
+            net.circuit_sum(curves.as_slice(), walk),
+            sum,
+            "for {walk:?}"
+        );
     }
     Ok(())
 }

@@ -12,11 +12,11 @@ loop-j-preserved g c =
     let net = network c.args.self.now (map g.C.Listed.listing c.args.curves.now) in
     let side = c.args.side.now in
     let j = c.loop-j.j in
-    let curve_is = curve-of g.C.Listed.listing c.args.self.now c.args.curves.now c.index-curves-j.result j
-    (omega (arith, c.requires.one_curve_each)) c.index-curves-j.is in
+    let curve_is = curve-of g.C.Listed.listing c.args.self.now c.args.curves.now c.index-curves-arc.result j
+    (omega (arith, c.requires.one_curve_each)) c.index-curves-arc.is in
     let part : Some c.in-Some.part ≡ part_of (cut_end net side j) =
     c.in-Some.ensures.value
-    ∙ ap part_of (crossing-at net side j (g.C.Listed.listing c.index-curves-j.result) _ _ curve_is
+    ∙ ap part_of (crossing-at net side j (g.C.Listed.listing c.index-curves-arc.result) _ _ curve_is
     (ap (holds side) c.from.ensures) (ap (holds side) c.to.ensures)) in
     record {
       finite = below_more _ _ c.loop-j.invariant.finite (part-finite (cut_end net side j) c.in-Some.part part);
