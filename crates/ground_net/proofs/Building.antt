@@ -52,8 +52,8 @@ built-model m k g h listed more d there built nodes arcs curves =
     let next : length m.nodes + (k + 1) ≡ length m.nodes + k + 1 = omega arith in
     rw next
     (built-more m (length m.nodes + k) g h listed more
-        (joining ((slice_index_or m.arcs k d).from + 1) ((slice_index_or m.arcs k d).to + 1)) (slice_index_or m.arcs k d).curve
-        (omega arith) built (arc_at-model m k d there) (curve-model m k d there) nodes arcs curves)
+    (joining ((slice_index_or m.arcs k d).from + 1) ((slice_index_or m.arcs k d).to + 1)) (slice_index_or m.arcs k d).curve
+    (omega arith) built (arc_at-model m k d there) (curve-model m k d there) nodes arcs curves)
 
 -- ---- the whole
 

@@ -34,7 +34,12 @@ fn nodes(alloc: Global, count: u32) -> Result<Net, AllocError>
 }
 
 /// From the ground to each node of the model, with the curve of its supply.
-fn add_ground_arcs(alloc: Global, net: &mut Net, curves: &mut Vec<Curve>, m: &Model) -> Result<(), AllocError>
+fn add_ground_arcs(
+    alloc: Global,
+    net: &mut Net,
+    curves: &mut Vec<Curve>,
+    m: &Model,
+) -> Result<(), AllocError>
     requires { IsBuilt m.now.entries 0 net.old (listings curves.old.items) }
     ensures { OnOk result (IsBuilt m.now.entries (length m.now.entries.nodes) net.new (listings curves.new.items)) }
 {
@@ -45,14 +50,23 @@ fn add_ground_arcs(alloc: Global, net: &mut Net, curves: &mut Vec<Curve>, m: &Mo
 }
 
 /// The arcs of the model, their ends one higher.
-fn add_model_arcs(alloc: Global, net: &mut Net, curves: &mut Vec<Curve>, m: &Model) -> Result<(), AllocError>
+fn add_model_arcs(
+    alloc: Global,
+    net: &mut Net,
+    curves: &mut Vec<Curve>,
+    m: &Model,
+) -> Result<(), AllocError>
     requires { IsBuilt m.now.entries (length m.now.entries.nodes) net.old (listings curves.old.items) }
-    ensures {
-        OnOk result (IsBuilt m.now.entries (length m.now.entries.nodes + length m.now.entries.arcs) net.new (listings curves.new.items))
-    }
+    ensures { OnOk result (IsBuilt m.now.entries (length m.now.entries.nodes + length m.now.entries.arcs) net.new (listings curves.new.items)) }
 {
     for j in 0..m.arcs() {
-        add_arc(alloc, net, curves, (m.arc_from(j) + 1, m.arc_to(j) + 1), m.arc_curve(j))?;
+        add_arc(
+            alloc,
+            net,
+            curves,
+            (m.arc_from(j) + 1, m.arc_to(j) + 1),
+            m.arc_curve(j),
+        )?;
     }
     Ok(())
 }

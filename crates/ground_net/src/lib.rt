@@ -6,3 +6,6 @@ mod grounded;
 
 pub use build::ground;
 pub use grounded::Grounded;
+
+#[cfg(test)]
+mod tests;

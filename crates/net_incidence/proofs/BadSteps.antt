@@ -1,11 +1,11 @@
 -- A circuit has no bad step and is closed. Conversely, where no step is bad each begins where the one before ends (else it
 -- would be apart), and no two begin at one node or pass one arc (else the later one would meet the earlier again).
-use Rattle.std.proofs.Common.{◌≡◌, ◌≢◌, ◌⊎◌, ℕ, ◌+◌, ◌<◌, List, length, inl, inr, refl, sym, subst, ⊎_elim, arith}
+use Rattle.std.proofs.Common.{◌≡◌, ℕ, ◌+◌, ◌<◌, List, length, inl, inr, refl, subst, ⊎_elim, arith}
 use Rattle.std.proofs.lemmas.Bool.{cases_eq}
 use Rattle.theory.specs.declared.network.Step.{Step}
 use Rattle.theory.specs.Network.{Network}
 use Rattle.theory.specs.Circuit.{step, begin_of, end_of, IsCircuit}
-use Rattle.net_incidence.specs.BadStep.{IsBadStep, NoneBadBelow, IsClosed, IsFirstBadStep, IsNotClosed, IsFault}
+use Rattle.net_incidence.specs.BadStep.{IsBadStep, NoneBadBelow, IsClosed}
 
 pub circuit-no_bad : (net : Network) (walk : List Step) (k : ℕ) → IsCircuit net walk → k < length walk → IsBadStep net walk k → ⊥
 circuit-no_bad net walk k circuit there bad =

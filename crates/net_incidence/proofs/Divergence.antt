@@ -1,13 +1,13 @@
 -- The divergence is the sum of the flows along the steps that begin at the node. Over one arc the steps at a node carry its
 -- flow if the arc leaves the node, its opposite if it enters it: never both, since no arc joins a node with itself. The
 -- incident steps are those of arc 0, then those of arc 1, and so on, so the sum over them is a sum over the arcs.
-use Rattle.std.proofs.Common.{◌≡◌, ◌≢◌, ℕ, zero, suc, ◌+◌, ◌<◌, ◌==◌, ℤ, pos, ◌+ℤ◌, ◌-ℤ◌, neg_ℤ, Bool, true, false, List, [], ◌∷◌, ◌++◌, length, refl, sym, ap, ◌∙◌, ⊎_elim, eq-eqb, arith}
+use Rattle.std.proofs.Common.{◌≡◌, ◌≢◌, ℕ, zero, suc, ◌==◌, ℤ, ◌+ℤ◌, ◌-ℤ◌, List, [], ◌∷◌, ◌++◌, length, refl, sym, ap, ◌∙◌, ⊎_elim, eq-eqb, arith}
 use Rattle.std.proofs.lemmas.Int.{ints}
 use Rattle.std.proofs.lemmas.Bool.{cases_eq, ne_eqb}
 use Rattle.theory.specs.declared.network.Step.{Step}
 use Rattle.theory.specs.Sums.{sum_over, sum_below, counted}
 use Rattle.theory.specs.Network.{Network, arc_at, tail, head}
-use Rattle.theory.specs.Conserved.{outflow, inflow, divergence}
+use Rattle.theory.specs.Conserved.{divergence}
 use Rattle.theory.specs.Circuit.{step}
 use Rattle.theory.proofs.SumsBelow.{sum_below-same, sum_below-sub}
 use Rattle.net_incidence.specs.Graph.{AreArcs}

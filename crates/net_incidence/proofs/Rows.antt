@@ -1,6 +1,6 @@
 -- Lists of lists, seen through f from the values that hold them: a write that keeps a row, and one that adds to it.
-use Rattle.std.proofs.Common.{◌≡◌, ◌≢◌, ℕ, ◌<◌, List, [], ◌∷◌, ◌++◌, map, length, get_or, set, sym, ap, ◌∙◌, arith}
-use Rattle.std.proofs.lemmas.List.{map-set, get_or-map, get_or-set_other, length-set}
+use Rattle.std.proofs.Common.{◌≡◌, ◌≢◌, ℕ, ◌<◌, List, [], ◌∷◌, ◌++◌, map, length, get_or, set, sym, ap, ◌∙◌}
+use Rattle.std.proofs.lemmas.List.{map-set, get_or-map, get_or-set_other}
 use Rattle.std.proofs.Math.Seq.{map-set_same}
 
 pub rows-kept : {V A : Type 0} (l : List V) (i : ℕ) (m v : V) (f : V → List A) → m ≡ get_or l i m → f v ≡ f m

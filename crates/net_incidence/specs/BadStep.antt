@@ -3,7 +3,6 @@
 -- A walk without a bad step is a circuit exactly where it is closed.
 use Rattle.std.specs.Prelude.{◌≡◌, ◌≢◌, ◌⊎◌, ℕ, ◌+◌, ◌<◌, List, length}
 use Rattle.theory.specs.declared.network.Step.{Step}
-use Rattle.theory.specs.CurveList.{Listing}
 use Rattle.theory.specs.Network.{Network}
 use Rattle.theory.specs.Circuit.{step, begin_of, end_of}
 

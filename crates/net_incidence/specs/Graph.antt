@@ -1,6 +1,6 @@
 -- Graph: what a net is seen as. The count of nodes, the arcs in the order of their numbers, and the proof that each arc
 -- joins two different nodes that are there. With a listed curve for each arc it is a network.
-use Rattle.std.specs.Prelude.{◌≡◌, ◌≢◌, ℕ, ◌<◌, ◌≤◌, ◌^◌, List, [], length}
+use Rattle.std.specs.Prelude.{◌≢◌, ℕ, ◌<◌, ◌≤◌, ◌^◌, List, [], length}
 use Rattle.theory.specs.declared.network.Arc.{Arc}
 use Rattle.theory.specs.CurveList.{Listing}
 use Rattle.theory.specs.Network.{Network, arc_at}
@@ -24,8 +24,3 @@ network g curves = record { nodes = g.nodes; arcs = g.arcs; curves = curves }
 -- the graph alone, for what no curve enters: divergence, tension, circuits
 abbrev pub bare : Graph → Network
 bare g = network g []
-
--- what a refused call leaves
-pub record IsUnchanged (old new : Graph) : Type 0 where
-  pub nodes : new.nodes ≡ old.nodes
-  pub arcs : new.arcs ≡ old.arcs

@@ -3,7 +3,6 @@
 use Rattle.std.specs.Prelude.{◌≡◌, ℕ, ◌<◌, zero, suc, ◌==◌, Bool, true, false, if◌then◌else◌, List, [], ◌∷◌, ◌++◌, length}
 use Rattle.theory.specs.declared.network.Arc.{Arc}
 use Rattle.theory.specs.declared.network.Step.{Step}
-use Rattle.theory.specs.CurveList.{Listing}
 use Rattle.theory.specs.Network.{Network, arc_at}
 use Rattle.theory.specs.Circuit.{step, begin_of}
 

@@ -3,7 +3,6 @@ use Rattle.std.specs.Prelude.{◌≡◌, ℕ, ◌<◌, Bool, false, List, length
 use Rattle.theory.specs.declared.ext.Ext.{Ext}
 use Rattle.theory.specs.declared.network.Step.{Step}
 use Rattle.theory.specs.Ends.{is_finite, IsFinite}
-use Rattle.theory.specs.CurveList.{Listing}
 use Rattle.theory.specs.Network.{Network}
 use Rattle.theory.specs.Cut.{cut_end, cut_sum, CutCounts}
 use Rattle.theory.specs.Circuit.{step, span_end, span_sum, SpanCounts}

@@ -1,5 +1,5 @@
 // Divergences of flows and tensions of potentials.
-ghost use Rattle.std.specs.Prelude.{◌≡◌, ℕ, ◌^◌, ◌*◌, ◌<◌, pos, neg_ℤ, ◌≤ℤ◌, length};
+ghost use Rattle.std.specs.Prelude.{◌≡◌, ◌^◌, ◌<◌, pos, neg_ℤ, ◌≤ℤ◌, length};
 ghost use Rattle.theory.specs.Network.{«at»};
 ghost use Rattle.theory.specs.Conserved.{divergence, tension};
 ghost use Rattle.net_incidence.specs.Graph.{bare};

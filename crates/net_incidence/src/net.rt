@@ -1,6 +1,6 @@
 // The network type: nodes and arcs known by their numbers, each arc with its two ends, each node with the steps that
 // begin at it.
-ghost use Rattle.std.specs.Prelude.{◌≡◌, ◌↔◌, ◌+◌, ◌<◌, ◌^◌, [], ◌∷◌, ◌++◌, length, IfOk, OnErr, Err};
+ghost use Rattle.std.specs.Prelude.{◌≡◌, length};
 ghost use Rattle.net_incidence.specs.Graph.{AreArcs};
 
 use crate::incidence::{Incidence, push_within};
@@ -49,11 +49,11 @@ impl Model for Net {
 }
 
 impl Net {
-    ghost use Rattle.std.specs.Prelude.{◌↔◌, ◌<◌, ◌≤◌, ◌^◌, ◌++◌, ◌∷◌, IfOk, OnErr, IsErrOf};
+    ghost use Rattle.std.specs.Prelude.{◌≡◌, ◌↔◌, ◌+◌, ◌<◌, ◌^◌, [], ◌∷◌, ◌++◌, length, IfOk, OnErr};
     ghost use Rattle.theory.specs.Network.{tail, head};
     ghost use Rattle.theory.specs.Circuit.{begin_of, end_of, step, WalkIsThere};
     ghost use Rattle.theory.specs.Grounded.{joining};
-    ghost use Rattle.net_incidence.specs.Graph.{Graph, bare, IsUnchanged};
+    ghost use Rattle.net_incidence.specs.Graph.{bare};
     ghost use Rattle.net_incidence.specs.Incidence.{incident_steps, AllBegin};
 
     /// No node and no arc.
@@ -154,7 +154,7 @@ impl Net {
         ensures number { IfOk result (λ node. node.0 ≡ self.old.nodes) }
         ensures nodes { IfOk result (λ node. self.new.nodes ≡ self.old.nodes + 1) }
         ensures arcs { IfOk result (λ node. self.new.arcs ≡ self.old.arcs) }
-        ensures err { OnErr result (IsUnchanged self.old self.new) }
+        ensures err { OnErr result (self.new ≡ self.old) }
     {
         let number = self.incidence.len() as u32;
         self.incidence.add_node()?;
@@ -170,7 +170,7 @@ impl Net {
         ensures nodes { IfOk result (λ arc. self.new.nodes ≡ self.old.nodes) }
         ensures arcs { IfOk result (λ arc. self.new.arcs ≡ self.old.arcs ++ joining from.0 to.0 ∷ []) }
         ensures is_loop { (result ≡ Err NetFault.Loop) ↔ (from ≡ to) }
-        ensures err { OnErr result (IsUnchanged self.old self.new) }
+        ensures err { OnErr result (self.new ≡ self.old) }
     {
         if from == to {
             return Err(NetFault::Loop);

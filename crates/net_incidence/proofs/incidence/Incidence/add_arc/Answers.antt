@@ -1,5 +1,5 @@
 -- Making room changes no row; then the two rows grow by their steps.
-use Rattle.std.proofs.Common.{◌≡◌, ◌∙◌, ◌<◌, ◌++◌, [], true, false, sym, ap, map, length, arith}
+use Rattle.std.proofs.Common.{◌∙◌, ◌<◌, true, false, ap, length, arith}
 use Rattle.std.proofs.lemmas.Result.{err_from_is_err_and}
 use Rattle.std.proofs.lemmas.List.{length-map, length-set}
 use Rattle.net_incidence.specs.Incidence.{over}

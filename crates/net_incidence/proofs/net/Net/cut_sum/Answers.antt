@@ -1,4 +1,4 @@
-use Rattle.std.proofs.Common.{◌≡◌, ◌∙◌, map, ap, below_more, Some, false, get_or, sym, arith}
+use Rattle.std.proofs.Common.{◌≡◌, ◌∙◌, map, ap, below_more, Some, arith}
 use Rattle.std.proofs.lemmas.Int.{ints}
 use Rattle.theory.specs.Ends.{whole}
 use Rattle.theory.specs.Cut.{holds, cut_end}

@@ -1,4 +1,4 @@
-use Rattle.std.proofs.Common.{◌≡◌, ◌∙◌, ℕ, length, sym, add-one, rules, arith}
+use Rattle.std.proofs.Common.{◌≡◌, ◌∙◌, length, add-one, arith}
 use Rattle.std.proofs.lemmas.Int.{ints}
 use Rattle.theory.specs.Network.{«at»}
 use Rattle.net_incidence.specs.Graph.{bare}

@@ -1,4 +1,4 @@
-use Rattle.std.proofs.Common.{◌≡◌, ℕ, ◌^◌, ◌*◌, pos, neg_ℤ, ◌≤ℤ◌}
+use Rattle.std.proofs.Common.{◌≡◌, ◌^◌, ◌*◌, pos, neg_ℤ, ◌≤ℤ◌}
 use Rattle.theory.specs.Sums.{sum_below}
 use Rattle.theory.specs.Network.{«at»}
 use Rattle.theory.specs.Circuit.{step}

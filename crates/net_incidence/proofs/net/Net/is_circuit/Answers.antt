@@ -1,4 +1,4 @@
-use Rattle.std.proofs.Common.{◌≡◌, ℕ, length, refl, inr, subst, arith}
+use Rattle.std.proofs.Common.{◌≡◌, length, refl, inr, arith}
 use Rattle.std.proofs.lemmas.Bool.{false≢true}
 use Rattle.net_incidence.specs.Graph.{bare}
 use Rattle.net_incidence.specs.BadStep.{NoneBadBelow}
