@@ -1,0 +1,22 @@
+-- The grounded network of a model as it is seen: a network, and what holds of every grounded network.
+use Rattle.std.specs.Prelude.{◌≡◌, ℕ, ◌+◌, ◌<◌, ◌≤◌, List, length, map}
+use Rattle.theory.specs.CurveList.{Listing}
+use Rattle.theory.specs.Network.{Network, IsNetwork, tail, head}
+use Rattle.mono_curve.specs.CurveValue.{CurveValue}
+
+-- the curves as they are listed
+abbrev pub listings : List CurveValue → List Listing
+listings curves = map (λ c. c.listing) curves
+
+-- arc i runs from node 0 to node i + 1, for each node above 0; the counts are those that a model allows
+pub record IsGrounded (net : Network) : Type 0 where
+  pub is_network : IsNetwork net
+  pub tails : (i : ℕ) → i + 1 < net.nodes → tail net i ≡ 0
+  pub heads : (i : ℕ) → i + 1 < net.nodes → head net i ≡ i + 1
+  pub arc_each : net.nodes ≤ length net.arcs + 1
+  pub few_nodes : net.nodes ≤ 2001
+  pub few_arcs : length net.arcs ≤ 12000
+
+pub record GroundedNet : Type 0 where
+  pub network : Network
+  pub good : IsGrounded network

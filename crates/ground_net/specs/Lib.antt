@@ -1,0 +1,3 @@
+-- What the grounded network of a model keeps, and how far it is built:
+pub mod Ground
+pub mod Built

@@ -1,0 +1,18 @@
+-- A graph is its nodes and arcs: of the facts that it carries there is only one proof.
+use Rattle.std.proofs.Common.{◌≡◌, ℕ, List, sym, ap, subst}
+use Rattle.std.proofs.Props.{props}
+use Rattle.theory.specs.declared.network.Arc.{Arc}
+use Rattle.net_incidence.specs.Graph.{AreArcs, Graph}
+
+abbrev graph : (nodes : ℕ) (arcs : List Arc) → AreArcs nodes arcs → Graph
+graph nodes arcs good = record { nodes = nodes; arcs = arcs; good = good }
+
+pub graph-same : (g h : Graph) → h.nodes ≡ g.nodes → h.arcs ≡ g.arcs → h ≡ g
+graph-same g h nodes arcs =
+    let one_proof : (q : AreArcs g.nodes g.arcs) → graph g.nodes g.arcs q ≡ g =
+    (λ q. let one : IsProp (AreArcs g.nodes g.arcs) = hlevel props in ap (graph g.nodes g.arcs) (one q g.good)) in
+    let with_nodes : (q : AreArcs h.nodes g.arcs) → graph h.nodes g.arcs q ≡ g =
+    subst (λ (n : ℕ). (q : AreArcs n g.arcs) → graph n g.arcs q ≡ g) (sym nodes) one_proof in
+    let with_arcs : (q : AreArcs h.nodes h.arcs) → graph h.nodes h.arcs q ≡ g =
+    subst (λ (some : List Arc). (q : AreArcs h.nodes some) → graph h.nodes some q ≡ g) (sym arcs) with_nodes in
+    with_arcs h.good

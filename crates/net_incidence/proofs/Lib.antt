@@ -1,0 +1,6 @@
+pub mod Graphs
+pub mod Rows
+pub mod Incident
+pub mod Divergence
+pub mod BadSteps
+pub mod SumParts
