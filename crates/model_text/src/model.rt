@@ -1,5 +1,5 @@
 // The model: nodes with supplies, arcs with curves, and the tables that find them by name.
-ghost use Rattle.std.specs.Prelude.{◌≡◌, ◌≤◌, ◌<◌, length, IfOk, OnOk, OnErr, IsOkUnless, MatchOption};
+ghost use Rattle.std.specs.Prelude.{◌≡◌, ◌≤◌, ◌<◌, length, IfOk, IfSome, OnOk, OnErr, IsOkUnless, MatchOption};
 ghost use Rattle.model_text.specs.Model.{IsWellFormed};
 ghost use Rattle.model_text.specs.ModelTables.{table_entries};
 
@@ -191,7 +191,8 @@ impl Model {
 
     /// The position of the node of that name.
     pub fn node_of(&self, name: &[u8]) -> Option<u32>
-        ensures { result ≡ place_of (node_names self.now.entries) name.now }
+        ensures place { result ≡ place_of (node_names self.now.entries) name.now }
+        ensures there { IfSome result (λ i. i < length self.now.entries.nodes) }
     {
         match self.nodes.get_index_of(name) {
             Some(position) => Some(position as u32),
@@ -201,7 +202,8 @@ impl Model {
 
     /// The position of the arc of that name.
     pub fn arc_of(&self, name: &[u8]) -> Option<u32>
-        ensures { result ≡ place_of (arc_names self.now.entries) name.now }
+        ensures place { result ≡ place_of (arc_names self.now.entries) name.now }
+        ensures there { IfSome result (λ i. i < length self.now.entries.arcs) }
     {
         match self.arcs.get_index_of(name) {
             Some(position) => Some(position as u32),
