@@ -51,9 +51,9 @@ pub own_place : (names : List (List ℕ)) → AllPairs ◌≢◌ names → (i : 
 own_place names differ i d here =
     let name = get_or names i d in
     let first : position_or_len (bytes_eq name) names ≡ i =
-        position_or_len_is (bytes_eq name) names i d (omega arith)
-          (λ k before. unequal name (get_or names k d) (λ same. differ k i d before here (sym same)))
-          (λ _. (bytes_decides name name).1 refl) in
+    position_or_len_is (bytes_eq name) names i d (omega arith)
+    (λ k before. unequal name (get_or names k d) (λ same. differ k i d before here (sym same)))
+    (λ _. (bytes_decides name name).1 refl) in
     ap (λ n. cond (nat_lt n (length names)) (Some n) None) first ∙ ap (λ b. cond b (Some i) None) (lt-ltb i (length names) here)
   where
     unequal : (a b : List ℕ) → a ≢ b → bytes_eq a b ≡ false

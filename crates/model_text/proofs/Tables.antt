@@ -58,7 +58,7 @@ module _ {A : Type 0} where
       → IsWellFormed (table_entries (insert_entry same_key nodes key supply) arcs)
   node_keeps nodes arcs key supply formed named none room small =
       subst IsWellFormed (sym (node_inserted nodes arcs key supply none))
-        (formed_with_node (table_entries nodes arcs) key.items supply.listing formed named none (omega (arith, length-map nodes node_entry)) supply.valid.is_list small)
+      (formed_with_node (table_entries nodes arcs) key.items supply.listing formed named none (omega (arith, length-map nodes node_entry)) supply.valid.is_list small)
 
   pub arc_keeps : (nodes : List (Vec ℕ A × Curve)) (arcs : List (Vec ℕ A × Joining)) (key : Vec ℕ A) (joining : Joining)
       → IsWellFormed (table_entries nodes arcs) → IsName key.items → place_of (arc_names (table_entries nodes arcs)) key.items ≡ None
@@ -67,7 +67,7 @@ module _ {A : Type 0} where
       → IsWellFormed (table_entries nodes (insert_entry same_key arcs key joining))
   arc_keeps nodes arcs key joining formed named none room tail_there head_there apart small =
       subst IsWellFormed (sym (arc_inserted nodes arcs key joining none))
-        (formed_with_arc (table_entries nodes arcs) key.items joining.from joining.to joining.curve.listing formed named none (omega (arith, length-map arcs arc_entry)) tail_there head_there apart joining.curve.valid.is_list small)
+      (formed_with_arc (table_entries nodes arcs) key.items joining.from joining.to joining.curve.listing formed named none (omega (arith, length-map arcs arc_entry)) tail_there head_there apart joining.curve.valid.is_list small)
 
 -- what holds of the rows as they were and with a further row holds after an insertion, whether or not there was memory
 pub either_way : {T E X : Type 0} (P : X → Type 0) (r : Result T E) (old new further : X) → OnOk r (new ≡ further) → OnErr r (new ≡ old) → P old → P further → P new

@@ -44,7 +44,7 @@ printed_node node = printed_line (codes "node") (node.name ∷ printed_curve nod
 abbrev pub printed_arc : Entries → ArcEntry → List ℕ
 printed_arc m arc =
     printed_line (codes "arc")
-      (arc.name ∷ (node_at m arc.from).name ∷ (node_at m arc.to).name ∷ printed_curve arc.curve)
+    (arc.name ∷ (node_at m arc.from).name ∷ (node_at m arc.to).name ∷ printed_curve arc.curve)
 
 abbrev pub printed_model : Entries → List ℕ
 printed_model m =

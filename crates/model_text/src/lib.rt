@@ -4,7 +4,6 @@
 mod model;
 mod name;
 mod print;
-
 #[cfg(test)]
 mod tests;
 

@@ -3,8 +3,8 @@ ghost use Rattle.std.specs.Prelude.{◌≡◌, ◌≤◌, ◌<◌, length, IfOk,
 ghost use Rattle.model_text.specs.Model.{IsWellFormed};
 ghost use Rattle.model_text.specs.ModelTables.{table_entries};
 
-use indexmap::IndexMap;
 use crate::name::Name;
+use indexmap::IndexMap;
 use mono_curve::Curve;
 use std::alloc::Global;
 use thiserror::Error;
@@ -96,13 +96,7 @@ impl Model {
     }
 
     /// Adds an arc between two nodes, by their positions, and gives its own position.
-    pub fn add_arc(
-        &mut self,
-        name: Name,
-        from: u32,
-        to: u32,
-        curve: Curve,
-    ) -> Result<u32, AddFault>
+    pub fn add_arc(&mut self, name: Name, from: u32, to: u32, curve: Curve) -> Result<u32, AddFault>
         requires tail { from < length self.old.entries.nodes }
         requires head { to < length self.old.entries.nodes }
         requires short { length curve.listing.items ≤ LIST_MOST }
@@ -123,7 +117,10 @@ impl Model {
         if position >= ARCS_MOST {
             return Err(AddFault::Full);
         }
-        match self.arcs.insert(name.into_vec(), Joining { from, to, curve }) {
+        match self
+            .arcs
+            .insert(name.into_vec(), Joining { from, to, curve })
+        {
             Ok(_) => Ok(position as u32),
             Err(_) => Err(AddFault::NoMemory),
         }

@@ -14,9 +14,11 @@ invariant_of-self-inside c =
     let none = free c.arc_of.result _ _ key.items _ _ (sym c.is_some.ensures ∙ c.if-is_some.false) c.arc_of.ensures.place c.as_slice.ensures c.into_vec.ensures (ap (λ m. arc_names m.entries) c.self.view_is) in
     let room : length arcs < ARCS_MOST = omega (arith, c.len-position.ensures.len) in
     let small : IsWithinLimits c.args.curve.listing = record { short = c.requires.short; items = c.args.curve.valid.items_within; base = c.requires.base } in
-    let nodes_is = ap (λ m. length m.entries.nodes) c.self.view_is in
-    (either_way (λ rows. IsWellFormed (table_entries nodes rows)) c.insert.result arcs _ _ c.insert.ensures.entries c.insert.ensures.err c.self.inside.formed
-      (arc_keeps nodes arcs key (record { from = c.args.from; to = c.args.to; curve = c.args.curve }) c.self.inside.formed (subst IsName (sym c.into_vec.ensures) c.args.name.named) none room (omega (arith, nodes_is)) (omega (arith, nodes_is)) c.if-from-to.false small), tt)
+    let nodes_is = ap (λ m. length m.entries.nodes) c.self.view_is in (
+      either_way (λ rows. IsWellFormed (table_entries nodes rows)) c.insert.result arcs _ _ c.insert.ensures.entries c.insert.ensures.err c.self.inside.formed
+          (arc_keeps nodes arcs key (record { from = c.args.from; to = c.args.to; curve = c.args.curve }) c.self.inside.formed (subst IsName (sym c.into_vec.ensures) c.args.name.named) none room (omega (arith, nodes_is)) (omega (arith, nodes_is)) c.if-from-to.false small),
+      tt,
+    )
 
 pub returns-in-Ok-clause-added : goal.returns-in-Ok-clause-added
 returns-in-Ok-clause-added c =

@@ -13,9 +13,11 @@ invariant_of-self-inside c =
     let key = c.into_vec.result in
     let none = free c.node_of.result _ _ key.items _ _ (sym c.is_some.ensures ∙ c.if-is_some.false) c.node_of.ensures.place c.as_slice.ensures c.into_vec.ensures (ap (λ m. node_names m.entries) c.self.view_is) in
     let room : length nodes < NODES_MOST = omega (arith, c.len-position.ensures.len) in
-    let small : IsWithinLimits c.args.supply.listing = record { short = c.requires.short; items = c.args.supply.valid.items_within; base = c.requires.base } in
-    (either_way (λ rows. IsWellFormed (table_entries rows arcs)) c.insert.result nodes _ _ c.insert.ensures.entries c.insert.ensures.err c.self.inside.formed
-      (node_keeps nodes arcs key c.args.supply c.self.inside.formed (subst IsName (sym c.into_vec.ensures) c.args.name.named) none room small), tt)
+    let small : IsWithinLimits c.args.supply.listing = record { short = c.requires.short; items = c.args.supply.valid.items_within; base = c.requires.base } in (
+      either_way (λ rows. IsWellFormed (table_entries rows arcs)) c.insert.result nodes _ _ c.insert.ensures.entries c.insert.ensures.err c.self.inside.formed
+          (node_keeps nodes arcs key c.args.supply c.self.inside.formed (subst IsName (sym c.into_vec.ensures) c.args.name.named) none room small),
+      tt,
+    )
 
 pub returns-in-Ok-clause-added : goal.returns-in-Ok-clause-added
 returns-in-Ok-clause-added c =
