@@ -2,5 +2,7 @@
 #![tactic(auto)]
 
 mod fault;
+mod numbers;
+mod words;
 
 pub use fault::FaultWord;
