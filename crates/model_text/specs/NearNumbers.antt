@@ -3,12 +3,12 @@ use Rattle.std.specs.Prelude.{ℕ, ◌+◌, min, ℤ, pos, negsuc, neg_ℤ}
 use Rattle.theory.specs.declared.ext.Ext.{Ext}
 use Rattle.theory.specs.declared.ext.Ext.TheVariants.{MinusInf, At, PlusInf}
 
-abbrev pub near_digits : ℕ → ℤ
-near_digits n = pos (min n 1000001)
+abbrev pub near_digits : ℕ → ℕ
+near_digits n = min n 1000001
 
 abbrev pub near_number : ℤ → ℤ
-near_number (pos n) = near_digits n
-near_number (negsuc n) = neg_ℤ (near_digits (n + 1))
+near_number (pos n) = pos (near_digits n)
+near_number (negsuc n) = neg_ℤ (pos (near_digits (n + 1)))
 
 abbrev pub near_item : Ext → Ext
 near_item MinusInf = MinusInf

@@ -4,19 +4,22 @@ ghost use Rattle.std.specs.Option.{option_map};
 ghost use Rattle.model_text.specs.NumberWords.{digits_of, number_of, item_of};
 ghost use Rattle.model_text.specs.NearNumbers.{near_digits, near_number, near_item};
 
+use crate::bytes::are_same;
 use theory::Ext;
 
-/// One more than the greatest magnitude of a number of a model: what greater ones are read as.
-const TOO_MUCH: i64 = 1_000_001;
+/// The first number beyond the limit of a model, which stands for all that are greater.
+const BEYOND: u32 = 1_000_001;
 
 /// The item that a word is: an infinity or a number.
 pub(crate) fn item(word: &[u8]) -> Option<Ext>
     ensures { result ≡ option_map near_item (item_of word.now) }
 {
-    match word {
-        b"-inf" => Some(Ext::MinusInf),
-        b"+inf" | b"inf" => Some(Ext::PlusInf),
-        _ => Some(Ext::At(number(word)?)),
+    if are_same(word, b"-inf") {
+        Some(Ext::MinusInf)
+    } else if are_same(word, b"+inf") || are_same(word, b"inf") {
+        Some(Ext::PlusInf)
+    } else {
+        number(word).map(|number| Ext::At(number))
     }
 }
 
@@ -25,24 +28,24 @@ pub(crate) fn number(word: &[u8]) -> Option<i64>
     ensures { result ≡ option_map near_number (number_of word.now) }
 {
     match word {
-        [b'-', digits @ ..] => Some(-digits_value(digits)?),
-        [b'+', digits @ ..] => digits_value(digits),
-        _ => digits_value(word),
+        [b'-', digits @ ..] => Some(-i64::from(magnitude(digits)?)),
+        [b'+', digits @ ..] => Some(i64::from(magnitude(digits)?)),
+        _ => Some(i64::from(magnitude(word)?)),
     }
 }
 
-fn digits_value(word: &[u8]) -> Option<i64>
-    ensures { result ≡ option_map near_digits (digits_of word.now) }
+fn magnitude(digits: &[u8]) -> Option<u32>
+    ensures { result ≡ option_map near_digits (digits_of digits.now) }
 {
-    if word.is_empty() {
+    if digits.is_empty() {
         return None;
     }
     let mut value = 0;
-    for byte in word {
-        if !byte.is_ascii_digit() {
+    for digit in digits {
+        if !digit.is_ascii_digit() {
             return None;
         }
-        value = (10 * value + i64::from(*byte - b'0')).min(TOO_MUCH);
+        value = (10 * value + u32::from(*digit - b'0')).min(BEYOND);
     }
     Some(value)
 }

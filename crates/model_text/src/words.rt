@@ -3,6 +3,7 @@ ghost use Rattle.std.specs.Prelude.{◌≡◌, map, IfOk};
 ghost use Rattle.std.specs.Str.Lines.{strip_carriage_return};
 ghost use Rattle.model_text.specs.Lines.{content, is_blank, line_words};
 
+use crate::bytes::cut;
 use std::alloc::{AllocError, Global};
 
 /// The words, in one table; each is a piece of the line.
@@ -25,11 +26,7 @@ fn is_blank(byte: u8) -> bool
 fn content(line: &[u8]) -> &[u8]
     ensures { result.now ≡ content line.now }
 {
-    let line = without_return(line);
-    match line.iter().position(|byte| *byte == b'#') {
-        Some(at) => &line[..at],
-        None => line,
-    }
+    cut(without_return(line), b'#').0
 }
 
 fn without_return(line: &[u8]) -> &[u8]
