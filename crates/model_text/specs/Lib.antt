@@ -1,5 +1,6 @@
 pub mod Names
+pub mod Printed
 pub mod Lines
 pub mod NumberWords
-pub mod ModelText
 pub mod NearNumbers
+pub mod ModelText

@@ -1,9 +1,13 @@
-// The model text: names, the model, its printed form, and the reader that names the first bad line.
+//! The model text: names, the model, its printed form, and the reader that names the first bad line.
 #![tactic(auto)]
 
 mod bytes;
 mod fault;
+mod name;
 mod numbers;
+mod print;
 mod words;
 
 pub use fault::FaultWord;
+pub use name::{NAME_MOST, Name, NameFault, is_name};
+pub use print::{append_end, append_list, append_number, append_word};

@@ -1,0 +1,4 @@
+mod Added
+mod Entries
+pub mod Grown
+mod Held

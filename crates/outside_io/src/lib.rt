@@ -1,0 +1,20 @@
+//! The outside of the program: a source of named files, a sink of bytes, and the two calls that go whole through
+//! them. A program runs over `FileShelf` and `StdSink`; a test runs over the memory forms, whose failing calls it
+//! chooses.
+#![tactic(auto)]
+
+mod byte_text;
+mod failing;
+mod files;
+mod memory_shelf;
+mod memory_sink;
+mod shelf;
+mod sink;
+mod whole;
+
+pub use byte_text::ByteText;
+pub use memory_shelf::MemoryShelf;
+pub use memory_sink::MemorySink;
+pub use shelf::{Got, Opened, Shelf};
+pub use sink::{Put, Sink};
+pub use whole::{ReadAns, Written, read_file, write_all};
