@@ -1,13 +1,13 @@
 -- Worked lines, computed by the definitions of the model text.
-use Rattle.std.specs.Prelude.{◌≡◌, ℕ, refl, true, false, Option, None, Some, List, [], ◌∷◌, ◌++◌, codes, ℤ, pos, neg_ℤ, replicate}
+use Rattle.std.specs.Prelude.{◌≡◌, ℕ, refl, true, false, Option, None, Some, List, [], ◌∷◌, ◌++◌, map, codes, pos, neg_ℤ, replicate}
 use Rattle.std.proofs.Common.{arith}
 use Rattle.theory.specs.declared.ext.Ext.TheVariants.{MinusInf, At, PlusInf}
 use Rattle.model_text.specs.declared.fault.FaultWord.{FaultWord}
-use Rattle.model_text.specs.declared.fault.FaultWord.TheVariants.{Utf8, Header, Keyword, Name, Number, Limit, Shape, Order, Twice, Unknown, Loop}
+use Rattle.model_text.specs.declared.fault.FaultWord.TheVariants.{Header, Keyword, Name, Number, Limit, Shape, Order, Twice, Unknown, Loop}
 use Rattle.model_text.specs.Names.{is_name}
 use Rattle.model_text.specs.Lines.{text_lines, line_words, content}
-use Rattle.model_text.specs.NumberWords.{number_of, item_of}
-use Rattle.model_text.specs.ModelText.{first_fault, word_tests, line_listing, IsFirstFault, no_words}
+use Rattle.model_text.specs.NumberWords.{number_of}
+use Rattle.model_text.specs.ModelText.{first_fault, word_tests, entry_tests, entries_of, with_line, line_listing, line_names, line_items, line_base, list_words, base_words, is_node_line, is_arc_line, lacks_names, lacks_numbers, is_beyond, is_full, is_misshapen, is_twice, is_unknown, is_loop, is_header, has_words, IsFirstFault, no_words}
 
 -- the fault of a line by its words, after others
 abbrev after : List (List ℕ) → List ℕ → Option FaultWord
@@ -17,128 +17,86 @@ after before line = first_fault (word_tests before (line_words line))
 abbrev fourth : List ℕ → Option FaultWord
 fourth line = after (codes "network 1" ∷ codes "node s" ∷ codes "node t" ∷ []) line
 
-keyword : fourth (codes "pipe a") ≡ Some Keyword
-keyword = refl
+refused : List (List ℕ × FaultWord)
+refused =
+    (codes "pipe a", Keyword)
+    ∷ (codes "network 1", Keyword)
+    ∷ (codes "arc a s", Name)
+    ∷ (codes "arc a s t 0 1 x", Number)
+    ∷ (codes "arc a s t 0 1 2 base", Number)
+    ∷ (codes "arc a s t 0 base 1 base 2", Number)
+    ∷ (codes "arc a s t 0 1000001 x", Number)
+    ∷ (codes "arc a s t 1000001 base", Number)
+    ∷ (codes "arc a s t 0 1 1000001", Limit)
+    ∷ (codes "arc a s t 0 1000001", Limit)
+    ∷ (codes "arc a s t 0 base -1000001", Limit)
+    ∷ (codes "arc a s t 0 2", Shape)
+    ∷ (codes "arc a s t", Shape)
+    ∷ (codes "arc a s t +inf", Shape)
+    ∷ (codes "arc a s t 0 -inf 1", Shape)
+    ∷ (codes "arc a s t 0 2 4 2 10", Order)
+    ∷ (codes "arc a s t 3 0 3", Order)
+    ∷ (codes "node s", Twice)
+    ∷ (codes "arc a s z 0 1 2", Unknown)
+    ∷ (codes "arc a z z 0 1 2", Unknown)
+    ∷ (codes "arc a s s 0 1 2", Loop)
+    ∷ []
 
-name : fourth (codes "arc a s") ≡ Some Name
-name = refl
-
-number : fourth (codes "arc a s t 0 1 x") ≡ Some Number
-number = refl
-
-bare_base : fourth (codes "arc a s t 0 1 2 base") ≡ Some Number
-bare_base = refl
-
-two_bases : fourth (codes "arc a s t 0 base 1 base 2") ≡ Some Number
-two_bases = refl
-
-limit : fourth (codes "arc a s t 0 1 1000001") ≡ Some Limit
-limit = refl
-
-limit_of_two : fourth (codes "arc a s t 0 1000001") ≡ Some Limit
-limit_of_two = refl
-
-number_hides_limit : fourth (codes "arc a s t 0 1000001 x") ≡ Some Number
-number_hides_limit = refl
-
-base_hides_limit : fourth (codes "arc a s t 1000001 base") ≡ Some Number
-base_hides_limit = refl
-
-limit_of_base : fourth (codes "arc a s t 0 base -1000001") ≡ Some Limit
-limit_of_base = refl
-
-even : fourth (codes "arc a s t 0 2") ≡ Some Shape
-even = refl
-
-empty : fourth (codes "arc a s t") ≡ Some Shape
-empty = refl
-
-infinite : fourth (codes "arc a s t +inf") ≡ Some Shape
-infinite = refl
-
-infinity_inside : fourth (codes "arc a s t 0 -inf 1") ≡ Some Shape
-infinity_inside = refl
-
-points : fourth (codes "arc a s t 0 2 4 2 10") ≡ Some Order
-points = refl
-
-slopes : fourth (codes "arc a s t 3 0 3") ≡ Some Order
-slopes = refl
-
-twice : fourth (codes "node s") ≡ Some Twice
-twice = refl
-
-unknown : fourth (codes "arc a s z 0 1 2") ≡ Some Unknown
-unknown = refl
-
-unknown_loop : fourth (codes "arc a z z 0 1 2") ≡ Some Unknown
-unknown_loop = refl
-
-loop : fourth (codes "arc a s s 0 1 2") ≡ Some Loop
-loop = refl
-
-twice_before_loop : after (codes "network 1" ∷ codes "node s" ∷ codes "node t" ∷ codes "arc a s t 0" ∷ []) (codes "arc a s s 0") ≡ Some Twice
-twice_before_loop = refl
-
-one_point : fourth (codes "arc a s t 3") ≡ None
-one_point = refl
-
-ends : fourth (codes "arc a s t -1000000 -1000000 0 1000000 1000000") ≡ None
-ends = refl
+refused_right : map (λ row. fourth row.0) refused ≡ map (λ row. Some row.1) refused
+unfolding refused word_tests entries_of with_line line_words content line_listing line_names line_items line_base list_words base_words is_node_line is_arc_line lacks_names lacks_numbers is_beyond is_full is_misshapen is_twice is_unknown is_loop is_header has_words
+refused_right = refl
 
 -- names come first, then the split at `base`
-base_node : fourth (codes "node base 5") ≡ None
-base_node = refl
+accepted : List (List ℕ)
+accepted = codes "arc a s t 3" ∷ codes "arc a s t -1000000 -1000000 0 1000000 1000000" ∷ codes "node base 5" ∷ []
 
-base_tail : after (codes "network 1" ∷ codes "node base" ∷ codes "node t" ∷ []) (codes "arc base base t -inf 5 inf base 7 # c") ≡ None
-base_tail = refl
+accepted_right : map fourth accepted ≡ map (λ line. None) accepted
+unfolding accepted word_tests entries_of with_line line_words content line_listing line_names line_items line_base list_words base_words is_node_line is_arc_line lacks_names lacks_numbers is_beyond is_full is_misshapen is_twice is_unknown is_loop is_header has_words
+accepted_right = refl
 
--- a model of one node, of an arc, in each written form
-words_part : line_words (codes "\tnode  n +2 03 06 base 10 # rest" ++ 13 ∷ []) ≡ codes "node" ∷ codes "n" ∷ codes "+2" ∷ codes "03" ∷ codes "06" ∷ codes "base" ∷ codes "10" ∷ []
-words_part = refl
+-- a used name and equal ends; `base` as a name and in its own place; no header before a line
+others : List (List (List ℕ) × List ℕ × Option FaultWord)
+others =
+    (codes "network 1" ∷ codes "node s" ∷ codes "arc a s t 0" ∷ [], codes "arc a s s 0", Some Twice)
+    ∷ (codes "network 1" ∷ codes "node base" ∷ codes "node t" ∷ [], codes "arc base base t -inf 5 inf base 7 # c", None)
+    ∷ (codes "# a" ∷ [], codes "node s", Some Header)
+    ∷ []
 
-listing : line_listing (line_words (codes "node n +2 03 06 base 10")) ≡ record { items = At (pos 2) ∷ At (pos 3) ∷ At (pos 6) ∷ []; base = pos 10 }
-listing = refl
+others_right : map (λ row. after row.0 row.1) others ≡ map (λ row. row.2) others
+unfolding others word_tests entries_of with_line line_words content line_listing line_names line_items line_base list_words base_words is_node_line is_arc_line lacks_names lacks_numbers is_beyond is_full is_misshapen is_twice is_unknown is_loop is_header has_words
+others_right = refl
 
-infinities : line_listing (line_words (codes "arc a s t -inf 3 inf")) ≡ record { items = MinusInf ∷ At (pos 3) ∷ PlusInf ∷ []; base = pos 0 }
-infinities = refl
+words_right : line_words (codes "\tnode  n +2 03 06 base 10 # rest" ++ 13 ∷ [])
+    ≡ codes "node" ∷ codes "n" ∷ codes "+2" ∷ codes "03" ∷ codes "06" ∷ codes "base" ∷ codes "10" ∷ []
+unfolding line_words content
+words_right = refl
 
-empty_supply : line_listing (line_words (codes "node n base 4")) ≡ record { items = At (pos 0) ∷ []; base = pos 4 }
-empty_supply = refl
+-- a list with a base, one with two infinities, the empty list of a node
+listings_right : map (λ line. line_listing (line_words line)) (codes "node n +2 03 06 base 10" ∷ codes "arc a s t -inf 3 inf" ∷ codes "node n base 4" ∷ [])
+    ≡ record { items = At (pos 2) ∷ At (pos 3) ∷ At (pos 6) ∷ []; base = pos 10 }
+    ∷ record { items = MinusInf ∷ At (pos 3) ∷ PlusInf ∷ []; base = pos 0 }
+    ∷ record { items = At (pos 0) ∷ []; base = pos 4 }
+    ∷ []
+unfolding line_words content line_listing line_items line_base list_words base_words is_node_line
+listings_right = refl
 
--- lines
-crlf : text_lines (codes "a" ++ 13 ∷ 10 ∷ 10 ∷ codes "b") ≡ (codes "a" ++ 13 ∷ []) ∷ [] ∷ codes "b" ∷ []
-crlf = refl
+lines_right : text_lines (codes "a" ++ 13 ∷ 10 ∷ 10 ∷ codes "b") ≡ (codes "a" ++ 13 ∷ []) ∷ [] ∷ codes "b" ∷ []
+unfolding text_lines
+lines_right = refl
 
-one_return : content (codes "a" ++ 13 ∷ 13 ∷ []) ≡ codes "a" ++ 13 ∷ []
-one_return = refl
+-- one return goes, at the end alone: one before a comment stays in its word
+returns_right : map content ((codes "a" ++ 13 ∷ 13 ∷ []) ∷ (13 ∷ []) ∷ (codes "a" ++ 13 ∷ codes "#") ∷ [])
+    ≡ (codes "a" ++ 13 ∷ []) ∷ [] ∷ (codes "a" ++ 13 ∷ []) ∷ []
+unfolding content
+returns_right = refl
 
-lone_return : content (13 ∷ []) ≡ []
-lone_return = refl
+names_right : map is_name (replicate 64 97 ∷ replicate 65 97 ∷ [] ∷ []) ≡ true ∷ false ∷ false ∷ []
+names_right = refl
 
--- a return before a comment's end goes, one before its sign stays in the word
-return_before_comment : line_words (codes "a" ++ 13 ∷ codes "#") ≡ (codes "a" ++ 13 ∷ []) ∷ []
-return_before_comment = refl
-
-no_header : after (codes "# a" ∷ []) (codes "node s") ≡ Some Header
-no_header = refl
-
-second_header : after (codes "network 1" ∷ []) (codes "network 1") ≡ Some Keyword
-second_header = refl
-
-long_names : is_name (replicate 64 97) ≡ true
-long_names = refl
-
-longer_names : is_name (replicate 65 97) ≡ false
-longer_names = refl
-
-no_name : is_name [] ≡ false
-no_name = refl
-
-forty_digits : number_of (codes "-0000000000000000000000000000000001000000") ≡ Some (neg_ℤ (pos 1000000))
-forty_digits = refl
+many_digits : number_of (codes "-0000000000000000000000000000000001000000") ≡ Some (neg_ℤ (pos 1000000))
+many_digits = refl
 
 -- a text without words lacks its header after the last line
 no_text : IsFirstFault [] 1 Header
+unfolding text_lines has_words
 no_text = no_words refl (λ k below. absurd (omega arith))
-

@@ -1,0 +1,82 @@
+-- The parts of a line: its keyword, its names, its list, and what stands from `base` on.
+use Rattle.std.specs.Prelude.{◌≡◌, ℕ, ◌-◌, ◌<◌, min, Bool, true, false, not, ◌||◌, if◌then◌else◌, Option, None, Some, List, [], ◌∷◌, length, take, drop, map, codes, refl}
+use Rattle.std.specs.Borrow.{Bor}
+use Rattle.std.specs.List.{position_or_len}
+use Rattle.std.specs.Str.{bytes_eq}
+use Rattle.std.proofs.Common.{arith, sym, ◌∙◌, ap, get_or}
+use Rattle.std.proofs.lemmas.List.{take_min, drop_min, take_rest, take-map, drop-map}
+use Rattle.std.proofs.lemmas.Slice.Eq.{bytes_eq-Decides}
+use Rattle.model_text.specs.declared.line.Kind.{Kind}
+use Rattle.model_text.specs.declared.line.Kind.TheVariants.{Node, Arc}
+use Rattle.model_text.specs.ModelText.{is_node_line, is_arc_line, is_base_word, line_names, list_words, base_words, names_wanted, body, list_count}
+use Rattle.model_text.specs.LineParts.{texts, is_node, keyword_kind, AreParts}
+
+node-no-arc : (word : List ℕ) → bytes_eq word (codes "node") ≡ true → bytes_eq word (codes "arc") ≡ false
+node-no-arc word is = let e = (bytes_eq-Decides word (codes "node")).0 is in rw e refl
+
+kind-by : (n a : Bool) (kind : Kind) → (n ≡ true → a ≡ false) → (if n then Some Node else (if a then Some Arc else None)) ≡ Some kind
+    → (n ≡ is_node kind) × (a ≡ not (is_node kind))
+kind-by true a Node one is = (refl, one refl)
+kind-by true a Arc one is = cc
+kind-by false true Node one is = cc
+kind-by false true Arc one is = (refl, refl)
+kind-by false false kind one is = cc
+
+kind-is : (word : List ℕ) (kind : Kind) → keyword_kind word ≡ Some kind
+    → (bytes_eq word (codes "node") ≡ is_node kind) × (bytes_eq word (codes "arc") ≡ not (is_node kind))
+kind-is word kind is = kind-by (bytes_eq word (codes "node")) (bytes_eq word (codes "arc")) kind (node-no-arc word) is
+
+none-by : (n a : Bool) → ◌≡◌ {A = Option Kind} (if n then Some Node else (if a then Some Arc else None)) None → (n || a) ≡ false
+none-by true a is = cc
+none-by false true is = cc
+none-by false false is = refl
+
+-- no keyword in front, or no word at all
+pub no_keyword : (words : List (Bor (List ℕ))) (d : Bor (List ℕ)) → 0 < length words → keyword_kind (get_or words 0 d).now ≡ None
+    → (is_node_line (texts words) || is_arc_line (texts words)) ≡ false
+unfolding is_node_line is_arc_line
+no_keyword [] d some is = absurd (omega arith)
+no_keyword (word ∷ words) d some is = none-by (bytes_eq word.now (codes "node")) (bytes_eq word.now (codes "arc")) is
+
+pub no_words : (words : List (Bor (List ℕ))) → length words < 1 → (is_node_line (texts words) || is_arc_line (texts words)) ≡ false
+unfolding is_node_line is_arc_line
+no_words [] none = refl
+no_words (word ∷ words) none = absurd (omega arith)
+
+keyword-is : (words : List (Bor (List ℕ))) (d : Bor (List ℕ)) (kind : Kind) → 0 < length words → keyword_kind (get_or words 0 d).now ≡ Some kind
+    → (is_node_line (texts words) ≡ is_node kind) × (is_arc_line (texts words) ≡ not (is_node kind))
+unfolding is_node_line is_arc_line
+keyword-is [] d kind some is = absurd (omega arith)
+keyword-is (word ∷ words) d kind some is = kind-is word.now kind is
+
+take-texts : (n : ℕ) (words : List (Bor (List ℕ))) → texts (take n words) ≡ take n (texts words)
+take-texts n words = sym (take-map (λ word. word.now) n words)
+
+drop-texts : (n : ℕ) (words : List (Bor (List ℕ))) → texts (drop n words) ≡ drop n (texts words)
+drop-texts n words = sym (drop-map (λ word. word.now) n words)
+
+-- what the code cuts off, in turn
+pub parts : (words : List (Bor (List ℕ))) (d : Bor (List ℕ)) (kind : Kind) (wanted count : ℕ) (rest names after list base : List (Bor (List ℕ)))
+    → 0 < length words → keyword_kind (get_or words 0 d).now ≡ Some kind
+    → rest ≡ take (length words - 1) (drop 1 words) → wanted ≡ (if is_node kind then 1 else 3)
+    → names ≡ take (min wanted (length rest)) rest → after ≡ drop (min wanted (length rest)) rest
+    → count ≡ position_or_len is_base_word (texts after)
+    → list ≡ take count after → base ≡ drop count after
+    → AreParts (texts words) kind (texts names) (texts list) (texts base)
+unfolding line_names list_words base_words
+parts words d kind wanted count rest names after list base some is rest-is wanted-is names-is after-is count-is list-is base-is =
+    let kinds = keyword-is words d kind some is in
+    let rests : rest ≡ drop 1 words = rest-is ∙ take_rest words 1 in
+    let wants : wanted ≡ names_wanted (texts words) = wanted-is ∙ ap (λ b. if b then 1 else 3) (sym kinds.0) in
+    let bodies : texts after ≡ body (texts words) =
+        ap texts (after-is ∙ drop_min wanted rest ∙ ap (drop wanted) rests) ∙ drop-texts wanted (drop 1 words)
+        ∙ ap (drop wanted) (drop-texts 1 words) ∙ ap (λ n. drop n (drop 1 (texts words))) wants in
+    let counts : count ≡ list_count (texts words) = count-is ∙ ap (position_or_len is_base_word) bodies in
+    record {
+      node = kinds.0;
+      arc = kinds.1;
+      names =
+          ap texts (names-is ∙ take_min wanted rest ∙ ap (take wanted) rests) ∙ take-texts wanted (drop 1 words)
+          ∙ ap (take wanted) (drop-texts 1 words) ∙ ap (λ n. take n (drop 1 (texts words))) wants;
+      list = ap texts list-is ∙ take-texts count after ∙ rw (counts, bodies) refl;
+      base = ap texts base-is ∙ drop-texts count after ∙ rw (counts, bodies) refl }
