@@ -1,6 +1,7 @@
 pub mod Names
-pub mod Printed
 pub mod Model
+pub mod ModelTables
+pub mod Printed
 pub mod Lines
 pub mod NumberWords
 pub mod NearNumbers

@@ -11,6 +11,6 @@ mod print;
 mod words;
 
 pub use fault::FaultWord;
-pub use model::{AddFault, ARCS_MOST, LIST_MOST, NODES_MOST};
+pub use model::{ARCS_MOST, AddFault, LIST_MOST, Model, NODES_MOST};
 pub use name::{NAME_MOST, Name, NameFault, is_name};
 pub use print::{append_end, append_list, append_number, append_word};

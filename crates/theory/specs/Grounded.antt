@@ -36,7 +36,8 @@ abbrev pub grounded : Entries → Network
 grounded m = record {
   nodes = length m.nodes + 1;
   arcs = ground_arcs m.nodes ++ model_arcs m.arcs;
-  curves = map (λ entry. entry.supply) m.nodes ++ map (λ entry. entry.curve) m.arcs }
+  curves = map (λ entry. entry.supply) m.nodes ++ map (λ entry. entry.curve) m.arcs;
+}
 
 -- each arc joins two different nodes that are there, and every list is a curve list
 pub record IsModel (m : Entries) : Type 0 where

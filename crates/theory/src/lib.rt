@@ -3,8 +3,11 @@
 #![tactic(auto)]
 
 mod colour;
+pub mod curve_laws;
 mod ext;
 mod network;
+pub mod pricing;
+pub mod view_laws;
 
 pub use colour::Colour;
 pub use ext::Ext;
