@@ -1,14 +1,20 @@
 -- The parts of a line: its keyword, its names, its list, and what stands from `base` on.
-use Rattle.std.specs.Prelude.{◌≡◌, ℕ, ◌-◌, ◌<◌, min, Bool, true, false, not, ◌||◌, if◌then◌else◌, Option, None, Some, List, [], ◌∷◌, length, take, drop, map, codes, refl}
+use Rattle.std.specs.Prelude.{◌≡◌, ℕ, ◌-◌, ◌<◌, min, Bool, true, false, not, ◌&&◌, ◌||◌, ◌≤◌, nat_lt, is_none, unwrap_or, pos, if◌then◌else◌, Option, None, Some, List, [], ◌∷◌, length, take, drop, map, codes, refl}
 use Rattle.std.specs.Borrow.{Bor}
-use Rattle.std.specs.List.{position_or_len}
+use Rattle.std.specs.List.{position_or_len, list_all, list_any}
+use Rattle.std.specs.Option.{option_map}
 use Rattle.std.specs.Str.{bytes_eq}
 use Rattle.std.proofs.Common.{arith, sym, ◌∙◌, ap, get_or}
-use Rattle.std.proofs.lemmas.List.{take_min, drop_min, take_rest, take-map, drop-map}
+use Rattle.std.proofs.lemmas.List.{take_min, drop_min, take_rest, take-map, drop-map, length-map}
+use Rattle.std.proofs.lemmas.List.Folds.{list_all-map}
 use Rattle.std.proofs.lemmas.Slice.Eq.{bytes_eq-Decides}
 use Rattle.model_text.specs.declared.line.Kind.{Kind}
 use Rattle.model_text.specs.declared.line.Kind.TheVariants.{Node, Arc}
-use Rattle.model_text.specs.ModelText.{is_node_line, is_arc_line, is_base_word, line_names, list_words, base_words, names_wanted, body, list_count}
+use Rattle.model_text.specs.ModelText.{is_node_line, is_arc_line, is_base_word, line_names, list_words, base_words, names_wanted, body, list_count, lacks_names, lacks_numbers, is_no_base, line_items, line_base}
+use Rattle.model_text.specs.Names.{is_name}
+use Rattle.model_text.specs.NumberWords.{item_of, number_of}
+use Rattle.model_text.specs.NearNumbers.{near_item, near_number}
+use Rattle.theory.specs.declared.ext.Ext.TheVariants.{MinusInf}
 use Rattle.model_text.specs.LineParts.{texts, is_node, keyword_kind, AreParts}
 
 node-no-arc : (word : List ℕ) → bytes_eq word (codes "node") ≡ true → bytes_eq word (codes "arc") ≡ false
@@ -80,3 +86,45 @@ parts words d kind wanted count rest names after list base some is rest-is wante
           ∙ ap (take wanted) (drop-texts 1 words) ∙ ap (λ n. take n (drop 1 (texts words))) wants;
       list = ap texts list-is ∙ take-texts count after ∙ rw (counts, bodies) refl;
       base = ap texts base-is ∙ drop-texts count after ∙ rw (counts, bodies) refl }
+
+-- ---- the tests of a line, on its parts
+
+list_any-texts : (p : List ℕ → Bool) (words : List (Bor (List ℕ))) → list_any (λ word. p word.now) words ≡ list_any p (texts words)
+list_any-texts p [] = refl
+list_any-texts p (word ∷ words) = ap (λ b. p word.now || b) (list_any-texts p words)
+
+pub lacks_names-is : {words list base : List (List ℕ)} {kind : Kind} (names : List (Bor (List ℕ))) → AreParts words kind (texts names) list base
+    → lacks_names words ≡ (nat_lt (length names) (if is_node kind then 1 else 3) || not (list_all (λ word. is_name word.now) names))
+unfolding lacks_names
+lacks_names-is names parts =
+    rw (← parts.names, parts.node, list_all-map is_name (λ word. word.now) names, length-map) refl
+
+pub lacks_numbers-is : {words names : List (List ℕ)} {kind : Kind} (list base : List (Bor (List ℕ))) → AreParts words kind names (texts list) (texts base)
+    → lacks_numbers words ≡ (list_any (λ word. is_none (item_of word.now)) list || is_no_base (texts base))
+unfolding lacks_numbers
+lacks_numbers-is list base parts =
+    rw (← parts.list, ← parts.base, list_any-texts (λ word. is_none (item_of word)) list) refl
+
+near-items : (list : List (Bor (List ℕ)))
+    → map (λ word. near_item (unwrap_or (item_of word.now) MinusInf)) list ≡ map near_item (map (λ word. unwrap_or (item_of word) MinusInf) (texts list))
+near-items [] = refl
+near-items (word ∷ list) = ap (λ items. near_item (unwrap_or (item_of word.now) MinusInf) ∷ items) (near-items list)
+
+pub line_items-is : {words names base : List (List ℕ)} {kind : Kind} (list : List (Bor (List ℕ))) → AreParts words kind names (texts list) base
+    → map near_item (line_items words) ≡ map (λ word. near_item (unwrap_or (item_of word.now) MinusInf)) list
+unfolding line_items
+line_items-is list parts = rw (← parts.list) (sym (near-items list))
+
+pub base-absent : {words names list : List (List ℕ)} {kind : Kind} (base : List (Bor (List ℕ))) → AreParts words kind names list (texts base)
+    → length base < 2 → line_base words ≡ pos 0
+unfolding line_base
+base-absent [] parts short = rw (← parts.base) refl
+base-absent (a ∷ []) parts short = rw (← parts.base) refl
+base-absent (a ∷ b ∷ base) parts short = absurd (omega arith)
+
+pub base-there : {words names list : List (List ℕ)} {kind : Kind} (base : List (Bor (List ℕ))) (d : Bor (List ℕ)) → AreParts words kind names list (texts base)
+    → 2 ≤ length base → line_base words ≡ unwrap_or (number_of (get_or base 1 d).now) (pos 0)
+unfolding line_base
+base-there [] d parts long = absurd (omega arith)
+base-there (a ∷ []) d parts long = absurd (omega arith)
+base-there (a ∷ b ∷ base) d parts long = rw (← parts.base) refl

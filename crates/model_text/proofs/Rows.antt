@@ -1,17 +1,18 @@
 -- Worked lines, computed by the definitions of the model text.
-use Rattle.std.specs.Prelude.{◌≡◌, ℕ, refl, true, false, Option, None, Some, List, [], ◌∷◌, ◌++◌, map, codes, pos, neg_ℤ, replicate}
+use Rattle.std.specs.Prelude.{◌≡◌, ℕ, refl, true, false, Option, None, Some, List, [], ◌∷◌, ◌++◌, drop, map, codes, pos, neg_ℤ, replicate}
 use Rattle.std.proofs.Common.{arith}
 use Rattle.theory.specs.declared.ext.Ext.TheVariants.{MinusInf, At, PlusInf}
+use Rattle.std.specs.List.{list_any}
 use Rattle.model_text.specs.declared.fault.FaultWord.{FaultWord}
 use Rattle.model_text.specs.declared.fault.FaultWord.TheVariants.{Header, Keyword, Name, Number, Limit, Shape, Order, Twice, Unknown, Loop}
 use Rattle.model_text.specs.Names.{is_name}
 use Rattle.model_text.specs.Lines.{text_lines, line_words, content}
 use Rattle.model_text.specs.NumberWords.{number_of}
-use Rattle.model_text.specs.ModelText.{first_fault, word_tests, entry_tests, entries_of, with_line, line_listing, line_names, line_items, line_base, list_words, base_words, is_node_line, is_arc_line, lacks_names, lacks_numbers, is_beyond, is_full, is_misshapen, is_twice, is_unknown, is_loop, is_header, has_words, IsFirstFault, no_words}
+use Rattle.model_text.specs.ModelText.{first_fault, line_tests, entry_tests, entries_of, with_line, line_listing, line_names, line_items, line_base, list_words, base_words, is_node_line, is_arc_line, lacks_names, lacks_numbers, is_beyond, is_full, is_misshapen, has_fall, is_twice, is_unknown, is_loop, is_header, has_words, IsFirstFault, no_words}
 
--- the fault of a line by its words, after others
+-- the fault of a line by its words, after others; a test for UTF-8 doesn't compute here
 abbrev after : List (List ℕ) → List ℕ → Option FaultWord
-after before line = first_fault (word_tests before (line_words line))
+after before line = first_fault (drop 1 (line_tests (list_any has_words before) (entries_of before) line))
 
 -- the same after two nodes
 abbrev fourth : List ℕ → Option FaultWord
@@ -43,7 +44,7 @@ refused =
     ∷ []
 
 refused_right : map (λ row. fourth row.0) refused ≡ map (λ row. Some row.1) refused
-unfolding refused word_tests entries_of with_line line_words content line_listing line_names line_items line_base list_words base_words is_node_line is_arc_line lacks_names lacks_numbers is_beyond is_full is_misshapen is_twice is_unknown is_loop is_header has_words
+unfolding refused line_tests entries_of with_line line_words content line_listing line_names line_items line_base list_words base_words is_node_line is_arc_line lacks_names lacks_numbers is_beyond is_full is_misshapen has_fall is_twice is_unknown is_loop is_header has_words
 refused_right = refl
 
 -- names come first, then the split at `base`
@@ -51,7 +52,7 @@ accepted : List (List ℕ)
 accepted = codes "arc a s t 3" ∷ codes "arc a s t -1000000 -1000000 0 1000000 1000000" ∷ codes "node base 5" ∷ []
 
 accepted_right : map fourth accepted ≡ map (λ line. None) accepted
-unfolding accepted word_tests entries_of with_line line_words content line_listing line_names line_items line_base list_words base_words is_node_line is_arc_line lacks_names lacks_numbers is_beyond is_full is_misshapen is_twice is_unknown is_loop is_header has_words
+unfolding accepted line_tests entries_of with_line line_words content line_listing line_names line_items line_base list_words base_words is_node_line is_arc_line lacks_names lacks_numbers is_beyond is_full is_misshapen has_fall is_twice is_unknown is_loop is_header has_words
 accepted_right = refl
 
 -- a used name and equal ends; `base` as a name and in its own place; no header before a line
@@ -63,7 +64,7 @@ others =
     ∷ []
 
 others_right : map (λ row. after row.0 row.1) others ≡ map (λ row. row.2) others
-unfolding others word_tests entries_of with_line line_words content line_listing line_names line_items line_base list_words base_words is_node_line is_arc_line lacks_names lacks_numbers is_beyond is_full is_misshapen is_twice is_unknown is_loop is_header has_words
+unfolding others line_tests entries_of with_line line_words content line_listing line_names line_items line_base list_words base_words is_node_line is_arc_line lacks_names lacks_numbers is_beyond is_full is_misshapen has_fall is_twice is_unknown is_loop is_header has_words
 others_right = refl
 
 words_right : line_words (codes "\tnode  n +2 03 06 base 10 # rest" ++ 13 ∷ [])

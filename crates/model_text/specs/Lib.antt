@@ -7,3 +7,4 @@ pub mod NumberWords
 pub mod NearNumbers
 pub mod ModelText
 pub mod LineParts
+pub mod Reading

@@ -1,7 +1,7 @@
 -- The model text: which text spells which model, and where it spells none, the first bad line and its first word.
 -- The tests of a line are a table; a line is tested against the model that the lines before it have made.
 use Rattle.std.specs.Prelude.{◌≡◌, ◌≢◌, ℕ, ◌+◌, ◌-◌, ◌%◌, ◌<◌, ◌==◌, nat_lt, nat_le, ℤ, pos, Bool, true, false, not, ◌&&◌, ◌||◌, if◌then◌else◌, Option, None, Some, is_some, is_none, unwrap_or, unsigned_abs, List, [], ◌∷◌, ◌++◌, length, take, drop, map, slice_index_or, codes, IsTrue}
-use Rattle.std.specs.List.{list_any, list_all, fold, take_while, position_or_len, enumerate_from}
+use Rattle.std.specs.List.{list_any, list_all, fold, position_or_len, zip}
 use Rattle.std.specs.Str.{bytes_eq, is_utf8}
 use Rattle.theory.specs.declared.ext.Ext.{Ext}
 use Rattle.theory.specs.declared.ext.Ext.TheVariants.{MinusInf, At, PlusInf}
@@ -59,7 +59,7 @@ line_base words = unwrap_or (number_of (word_at (base_words words) 1)) (pos 0)
 -- the curve of the line; an empty list of a node stands for the one point 0
 unfoldable pub line_listing : List (List ℕ) → Listing
 line_listing words = record {
-  items = if length (list_words words) == 0 then At (pos 0) ∷ [] else line_items words;
+  items = if length (line_items words) == 0 then At (pos 0) ∷ [] else line_items words;
   base = line_base words }
 
 -- ---- the model that lines make
@@ -80,47 +80,59 @@ entries_of lines = fold (λ m line. with_line m (line_words line)) no_entries li
 
 -- ---- the tests of a line
 
+abbrev pub is_minus_inf : Ext → Bool
+is_minus_inf MinusInf = true
+is_minus_inf (At a) = false
+is_minus_inf PlusInf = false
+
+abbrev pub is_plus_inf : Ext → Bool
+is_plus_inf MinusInf = false
+is_plus_inf (At a) = false
+is_plus_inf PlusInf = true
+
 abbrev pub is_over : ℤ → Bool
 is_over z = nat_lt number_most (unsigned_abs z)
+
+abbrev pub are_over : List Ext → Bool
+are_over items = list_any (λ e. is_over (whole e)) items
 
 unfoldable pub lacks_names : List (List ℕ) → Bool
 lacks_names words = nat_lt (length (line_names words)) (names_wanted words) || not (list_all is_name (line_names words))
 
--- a list word is no item; or `base` isn't followed by exactly one word that is a number
-unfoldable pub lacks_numbers : List (List ℕ) → Bool
-lacks_numbers words =
-    list_any (λ word. is_none (item_of word)) (list_words words)
-    || (not (length (base_words words) == 0)
-        && (not (length (base_words words) == 2) || is_none (number_of (word_at (base_words words) 1))))
+-- `base` stands there and isn't followed by exactly one word that is a number
+abbrev pub is_no_base : List (List ℕ) → Bool
+is_no_base [] = false
+is_no_base (base ∷ word ∷ []) = is_none (number_of word)
+is_no_base (base ∷ words) = true
 
--- a number beyond the limit; too long a list
+-- a list word is no item, or the base no number
+unfoldable pub lacks_numbers : List (List ℕ) → Bool
+lacks_numbers words = list_any (λ word. is_none (item_of word)) (list_words words) || is_no_base (base_words words)
+
+-- too long a list; a number beyond the limit
 unfoldable pub is_beyond : List (List ℕ) → Bool
 is_beyond words =
-    list_any (λ e. is_over (whole e)) (line_items words) || is_over (line_base words)
-    || nat_lt LIST_MOST (length (list_words words))
+    nat_lt LIST_MOST (length (list_words words)) || are_over (line_items words) || is_over (line_base words)
 
 -- the model has no room for what the line adds
 unfoldable pub is_full : Entries → List (List ℕ) → Bool
 is_full m words =
     (is_node_line words && nat_le NODES_MOST (length m.nodes)) || (is_arc_line words && nat_le ARCS_MOST (length m.arcs))
 
--- the item at place k is finite, minus infinity in front, or plus infinity at the end
-abbrev pub stands_right : ℕ → ℕ × Ext → Bool
-stands_right count (k, MinusInf) = k == 0
-stands_right count (k, At a) = true
-stands_right count (k, PlusInf) = (k + 1) == count
+-- minus infinity stands elsewhere than in front, plus infinity elsewhere than at the end
+abbrev pub is_misplaced : List Ext → Bool
+is_misplaced items = list_any is_minus_inf (drop 1 items) || list_any is_plus_inf (take (length items - 1) items)
 
 -- an even count of items, but for an empty list of a node; an infinity that stands wrong; an infinite single point
 unfoldable pub is_misshapen : List (List ℕ) → Bool
 is_misshapen words =
-    (length (list_words words) % 2 == 0 && not (is_node_line words && (length (list_words words) == 0)))
-    || not (list_all (stands_right (length (list_words words))) (enumerate_from 0 (line_items words)))
-    || (length (list_words words) == 1 && not (is_finite (item (line_items words) 0)))
+    (length (line_items words) % 2 == 0 && not (is_node_line words && length (line_items words) == 0))
+    || is_misplaced (line_items words)
+    || (length (line_items words) == 1 && not (is_finite (item (line_items words) 0)))
 
--- an item that isn't above the item two places before it
-abbrev pub has_fall : List Ext → Bool
-has_fall (p ∷ s ∷ r ∷ rest) = not (is_below p r) || has_fall (s ∷ r ∷ rest)
-has_fall items = false
+-- an item isn't above the item two places before it
+unfoldable pub has_fall : List (List ℕ) → Bool
+has_fall words = list_any (λ pair. not (is_below pair.0 pair.1)) (zip (line_items words) (drop 2 (line_items words)))
 
 unfoldable pub is_twice : Entries → List (List ℕ) → Bool
 is_twice m words =
@@ -142,7 +154,7 @@ entry_tests m words =
     ∷ (is_beyond words, Limit)
     ∷ (is_full m words, Limit)
     ∷ (is_misshapen words, Shape)
-    ∷ (has_fall (line_items words), Order)
+    ∷ (has_fall words, Order)
     ∷ (is_twice m words, Twice)
     ∷ (is_unknown m words, Unknown)
     ∷ (is_loop words, Loop)
@@ -155,20 +167,22 @@ unfoldable pub has_words : List ℕ → Bool
 has_words line = not (length (line_words line) == 0)
 
 -- the first line with words is the header; a line without words is tested for its bytes alone
-unfoldable pub word_tests : List (List ℕ) → List (List ℕ) → List (Bool × FaultWord)
-word_tests before words =
-    if list_any has_words before then entry_tests (entries_of before) words else ((not (is_header words), Header) ∷ [])
-
-unfoldable pub line_tests : List (List ℕ) → List ℕ → List (Bool × FaultWord)
-line_tests before line = (not (is_utf8 line), Utf8) ∷ (if has_words line then word_tests before (line_words line) else [])
+unfoldable pub line_tests : Bool → Entries → List ℕ → List (Bool × FaultWord)
+line_tests begun m line =
+    (not (is_utf8 line), Utf8)
+    ∷ (if has_words line then
+        (if begun then entry_tests m (line_words line) else ((not (is_header (line_words line)), Header) ∷ []))
+       else [])
 
 -- the word of the first test that the line fails
 abbrev pub first_fault : List (Bool × FaultWord) → Option FaultWord
 first_fault [] = None
 first_fault ((fails, word) ∷ rest) = if fails then Some word else first_fault rest
 
+-- a line is tested against what the lines before it have made
 unfoldable pub fault_at : List (List ℕ) → ℕ → Option FaultWord
-fault_at lines k = first_fault (line_tests (take k lines) (slice_index_or lines k []))
+fault_at lines k =
+    let before = take k lines in first_fault (line_tests (list_any has_words before) (entries_of before) (slice_index_or lines k []))
 
 -- ---- the text
 

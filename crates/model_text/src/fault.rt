@@ -15,3 +15,10 @@ pub enum FaultWord {
     Unknown,
     Loop,
 }
+
+/// Why a line was not read.
+#[derive(Clone, Copy, PartialEq, Eq)]
+pub(crate) enum Refusal {
+    Fault(FaultWord),
+    NoMemory,
+}

@@ -2,15 +2,19 @@
 #![tactic(auto)]
 
 mod bytes;
+mod entry;
 mod fault;
+mod items;
 mod line;
 mod model;
 mod name;
 mod numbers;
 mod print;
+mod read;
 mod words;
 
 pub use fault::FaultWord;
 pub use model::{ARCS_MOST, AddFault, LIST_MOST, Model, NODES_MOST};
 pub use name::{NAME_MOST, Name, NameFault, is_name};
+pub use read::{ModelError, read_model};
 pub use print::{append_end, append_list, append_number, append_word};
