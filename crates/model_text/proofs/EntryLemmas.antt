@@ -1,0 +1,47 @@
+-- Numbers beyond the limit: what the reader keeps of them shows that they are, and the others are kept as they are.
+use Rattle.std.specs.Prelude.{◌≡◌, ℕ, ◌+◌, ◌≤◌, min, nat_lt, ℤ, pos, negsuc, neg_ℤ, Bool, true, false, ◌||◌, unsigned_abs, List, [], ◌∷◌, length, map, refl}
+use Rattle.std.proofs.Common.{arith, sym, ◌∙◌, ap}
+use Rattle.std.proofs.lemmas.Bool.Decides.{nat_tests}
+use Rattle.theory.specs.declared.ext.Ext.{Ext}
+use Rattle.theory.specs.declared.ext.Ext.TheVariants.{MinusInf, At, PlusInf}
+use Rattle.theory.specs.Ends.{whole}
+use Rattle.model_text.specs.declared.model.TheConstants.{LIST_MOST}
+use Rattle.model_text.specs.ModelText.{is_over, are_over, is_beyond, list_words, line_items, line_base}
+use Rattle.model_text.specs.NearNumbers.{near_digits, near_number, near_item}
+
+near-over : (z : ℤ) → is_over (near_number z) ≡ is_over z
+near-over (pos n) = grind (arith, nat_tests)
+near-over (negsuc n) = ?
+
+near-exact : (z : ℤ) → is_over z ≡ false → near_number z ≡ z
+near-exact (pos n) within = ap pos (grind (arith, nat_tests))
+near-exact (negsuc n) within = ?
+
+items-over : (items : List Ext) → are_over (map near_item items) ≡ are_over items
+items-over [] = refl
+items-over (MinusInf ∷ items) = items-over items
+items-over (At z ∷ items) = rw (near-over z, items-over items) refl
+items-over (PlusInf ∷ items) = items-over items
+
+items-exact : (items : List Ext) → are_over items ≡ false → map near_item items ≡ items
+items-exact [] within = refl
+items-exact (MinusInf ∷ items) within = ap (λ rest. MinusInf ∷ rest) (items-exact items within)
+items-exact (At z ∷ items) within = ?
+items-exact (PlusInf ∷ items) within = ap (λ rest. PlusInf ∷ rest) (items-exact items within)
+
+pub beyond_long : (words : List (List ℕ)) → nat_lt LIST_MOST (length (list_words words)) ≡ true → is_beyond words ≡ true
+unfolding is_beyond
+beyond_long words long = rw long refl
+
+-- what was kept is beyond the limit exactly where the line is
+pub beyond_kept : (words : List (List ℕ)) (items : List Ext) (base : ℤ) → items ≡ map near_item (line_items words) → base ≡ near_number (line_base words)
+    → nat_lt LIST_MOST (length (list_words words)) ≡ false → is_beyond words ≡ (are_over items || is_over base)
+unfolding is_beyond
+beyond_kept words items base items-is base-is short =
+    rw (short, items-is, base-is, items-over (line_items words), near-over (line_base words)) refl
+
+pub items_kept : (words : List (List ℕ)) (items : List Ext) → items ≡ map near_item (line_items words) → are_over items ≡ false → items ≡ line_items words
+items_kept words items is within = is ∙ items-exact (line_items words) (sym (items-over (line_items words)) ∙ sym (ap are_over is) ∙ within)
+
+pub base_kept : (words : List (List ℕ)) (base : ℤ) → base ≡ near_number (line_base words) → is_over base ≡ false → base ≡ line_base words
+base_kept words base is within = is ∙ near-exact (line_base words) (sym (near-over (line_base words)) ∙ sym (ap is_over is) ∙ within)
