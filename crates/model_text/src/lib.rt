@@ -11,10 +11,12 @@ mod name;
 mod numbers;
 mod print;
 mod read;
+#[cfg(test)]
+mod tests;
 mod words;
 
 pub use fault::FaultWord;
 pub use model::{ARCS_MOST, AddFault, LIST_MOST, Model, NODES_MOST};
 pub use name::{NAME_MOST, Name, NameFault, is_name};
+pub use print::{append_end, append_line, append_list, append_number, append_word, print_model};
 pub use read::{ModelError, read_model};
-pub use print::{append_end, append_list, append_number, append_word};

@@ -1,10 +1,10 @@
 // The model: nodes with supplies, arcs with curves, and the tables that find them by name.
-ghost use Rattle.std.specs.Prelude.{◌≡◌, ◌≤◌, ◌<◌, length, IfOk, OnOk, OnErr, IsOkUnless, MatchOption};
+ghost use Rattle.std.specs.Prelude.{◌≡◌, ◌≤◌, ◌<◌, length, IfOk, IfSome, OnOk, OnErr, IsOkUnless, MatchOption};
 ghost use Rattle.model_text.specs.Model.{IsWellFormed};
 ghost use Rattle.model_text.specs.ModelTables.{table_entries};
 
-use indexmap::IndexMap;
 use crate::name::Name;
+use indexmap::IndexMap;
 use mono_curve::Curve;
 use std::alloc::Global;
 use thiserror::Error;
@@ -96,13 +96,7 @@ impl Model {
     }
 
     /// Adds an arc between two nodes, by their positions, and gives its own position.
-    pub fn add_arc(
-        &mut self,
-        name: Name,
-        from: u32,
-        to: u32,
-        curve: Curve,
-    ) -> Result<u32, AddFault>
+    pub fn add_arc(&mut self, name: Name, from: u32, to: u32, curve: Curve) -> Result<u32, AddFault>
         requires tail { from < length self.old.entries.nodes }
         requires head { to < length self.old.entries.nodes }
         requires short { length curve.listing.items ≤ LIST_MOST }
@@ -123,7 +117,10 @@ impl Model {
         if position >= ARCS_MOST {
             return Err(AddFault::Full);
         }
-        match self.arcs.insert(name.into_vec(), Joining { from, to, curve }) {
+        match self
+            .arcs
+            .insert(name.into_vec(), Joining { from, to, curve })
+        {
             Ok(_) => Ok(position as u32),
             Err(_) => Err(AddFault::NoMemory),
         }
@@ -191,7 +188,8 @@ impl Model {
 
     /// The position of the node of that name.
     pub fn node_of(&self, name: &[u8]) -> Option<u32>
-        ensures { result ≡ place_of (node_names self.now.entries) name.now }
+        ensures place { result ≡ place_of (node_names self.now.entries) name.now }
+        ensures there { IfSome result (λ i. i < length self.now.entries.nodes) }
     {
         match self.nodes.get_index_of(name) {
             Some(position) => Some(position as u32),
@@ -201,7 +199,8 @@ impl Model {
 
     /// The position of the arc of that name.
     pub fn arc_of(&self, name: &[u8]) -> Option<u32>
-        ensures { result ≡ place_of (arc_names self.now.entries) name.now }
+        ensures place { result ≡ place_of (arc_names self.now.entries) name.now }
+        ensures there { IfSome result (λ i. i < length self.now.entries.arcs) }
     {
         match self.arcs.get_index_of(name) {
             Some(position) => Some(position as u32),
