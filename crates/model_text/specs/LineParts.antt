@@ -9,7 +9,7 @@ use Rattle.model_text.specs.declared.fault.FaultWord.{FaultWord}
 use Rattle.model_text.specs.declared.fault.FaultWord.TheVariants.{Name, Number, Limit, Shape, Order, Twice, Unknown, Loop}
 use Rattle.model_text.specs.declared.fault.Refusal.{Refusal}
 use Rattle.model_text.specs.declared.fault.Refusal.TheVariants.{Fault, NoMemory}
-use Rattle.model_text.specs.ModelText.{is_node_line, is_arc_line, line_names, list_words, base_words, first_fault, lacks_names, lacks_numbers, is_beyond, is_full, is_misshapen, has_fall, is_twice, is_unknown, is_loop}
+use Rattle.model_text.specs.ModelText.{is_node_line, is_arc_line, line_names, list_words, base_words, first_fault, lacks_names, lacks_numbers, is_beyond, is_full, is_misshapen, line_items, has_fall, is_twice, is_unknown, is_loop}
 
 abbrev pub texts : List (Bor (List ℕ)) → List (List ℕ)
 texts words = map (λ word. word.now) words
@@ -36,7 +36,7 @@ number_tests words = (lacks_names words, Name) ∷ (lacks_numbers words, Number)
 
 abbrev pub model_tests : Entries → List (List ℕ) → List (Bool × FaultWord)
 model_tests m words =
-    (is_full m words, Limit) ∷ (is_misshapen words, Shape) ∷ (has_fall words, Order)
+    (is_full m words, Limit) ∷ (is_misshapen words, Shape) ∷ (has_fall (line_items words), Order)
     ∷ (is_twice m words, Twice) ∷ (is_unknown m words, Unknown) ∷ (is_loop words, Loop) ∷ []
 
 -- the tests are passed, or the refusal tells the first that isn't, or memory was short

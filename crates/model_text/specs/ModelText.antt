@@ -131,8 +131,8 @@ is_misshapen words =
     || (length (line_items words) == 1 && not (is_finite (item (line_items words) 0)))
 
 -- an item isn't above the item two places before it
-unfoldable pub has_fall : List (List ℕ) → Bool
-has_fall words = list_any (λ pair. not (is_below pair.0 pair.1)) (zip (line_items words) (drop 2 (line_items words)))
+unfoldable pub has_fall : List Ext → Bool
+has_fall items = list_any (λ pair. not (is_below pair.0 pair.1)) (zip items (drop 2 items))
 
 unfoldable pub is_twice : Entries → List (List ℕ) → Bool
 is_twice m words =
@@ -154,7 +154,7 @@ entry_tests m words =
     ∷ (is_beyond words, Limit)
     ∷ (is_full m words, Limit)
     ∷ (is_misshapen words, Shape)
-    ∷ (has_fall words, Order)
+    ∷ (has_fall (line_items words), Order)
     ∷ (is_twice m words, Twice)
     ∷ (is_unknown m words, Unknown)
     ∷ (is_loop words, Loop)

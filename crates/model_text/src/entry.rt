@@ -1,16 +1,15 @@
 // A line after the header: its tests, and what it adds to the model.
-ghost use Rattle.std.specs.Prelude.{◌≡◌, false, None, IfOk, OnOk};
-ghost use Rattle.model_text.specs.ModelText.{entry_tests, first_fault, with_line, line_items, line_base, line_listing, word_at, lacks_names, is_beyond, is_full, is_misshapen, has_fall, is_twice, is_unknown, is_loop};
+ghost use Rattle.std.specs.Prelude.{◌≡◌, IfOk, OnOk};
+ghost use Rattle.model_text.specs.ModelText.{entry_tests, first_fault, with_line, line_items, line_base, is_full, is_misshapen, is_twice, is_unknown, is_loop};
 ghost use Rattle.model_text.specs.LineParts.{texts, number_tests, model_tests, Passes};
 
+use crate::addition::add;
 use crate::bytes::are_same;
 use crate::fault::{FaultWord, Refusal};
 use crate::items;
 use crate::line::{Kind, Line};
-use crate::model::{ARCS_MOST, AddFault, LIST_MOST, Model, NODES_MOST};
-use crate::name::{Name, NameFault};
-use mono_curve::{Curve, CurveFault};
-use std::alloc::{AllocError, Global};
+use crate::model::{ARCS_MOST, Model, NODES_MOST};
+use std::alloc::Global;
 use theory::Ext;
 
 /// Adds what the line is to the model, where it passes the tests.
@@ -37,9 +36,9 @@ pub(crate) fn read_entry(
 
 /// The items and the base of a line.
 #[derive(Drop)]
-struct Numbers {
-    items: Vec<Ext>,
-    base: i64,
+pub(crate) struct Numbers {
+    pub(crate) items: Vec<Ext>,
+    pub(crate) base: i64,
 }
 
 /// The numbers of the line, where it passes the tests that need no model.
@@ -136,68 +135,5 @@ fn is_loop(line: &Line<'_>) -> bool
     match line.kind {
         Kind::Node => false,
         Kind::Arc => are_same(line.word(2), line.word(3)),
-    }
-}
-
-/// Adds the node or the arc of a line that passes the tests.
-fn add(
-    alloc: Global,
-    model: &mut Model,
-    line: &Line<'_>,
-    numbers: &Numbers,
-) -> Result<(), AllocError>
-    requires items { numbers.now.items.items ≡ line_items (texts line.now.words.now) }
-    requires base { numbers.now.base ≡ line_base (texts line.now.words.now) }
-    requires alone { first_fault (number_tests (texts line.now.words.now)) ≡ None }
-    requires together { first_fault (model_tests model.old.entries (texts line.now.words.now)) ≡ None }
-    ensures { OnOk result (model.new.entries ≡ with_line model.old.entries (texts line.now.words.now)) }
-{
-    let name = name_of(alloc, line)?;
-    let curve = curve_of(alloc, line, numbers)?;
-    let added = match line.kind {
-        Kind::Node => model.add_node(name, curve),
-        Kind::Arc => {
-            let from = model.node_of(line.word(2)).unwrap();
-            let to = model.node_of(line.word(3)).unwrap();
-            model.add_arc(name, from, to, curve)
-        }
-    };
-    match added {
-        Ok(_) => Ok(()),
-        Err(AddFault::NoMemory) => Err(AllocError),
-        Err(_) => unreachable!(),
-    }
-}
-
-fn name_of(alloc: Global, line: &Line<'_>) -> Result<Name, AllocError>
-    requires { lacks_names (texts line.now.words.now) ≡ false }
-    ensures { IfOk result (λ name. name.bytes ≡ word_at (texts line.now.words.now) 1) }
-{
-    match Name::of(alloc, line.word(1)) {
-        Ok(name) => Ok(name),
-        Err(NameFault::NoMemory) => Err(AllocError),
-        Err(NameFault::Form) => unreachable!(),
-    }
-}
-
-/// The curve of the line; an empty list stands for the one point 0.
-fn curve_of(alloc: Global, line: &Line<'_>, numbers: &Numbers) -> Result<Curve, AllocError>
-    requires items { numbers.now.items.items ≡ line_items (texts line.now.words.now) }
-    requires base { numbers.now.base ≡ line_base (texts line.now.words.now) }
-    requires limit { is_beyond (texts line.now.words.now) ≡ false }
-    requires shape { is_misshapen (texts line.now.words.now) ≡ false }
-    requires order { has_fall (texts line.now.words.now) ≡ false }
-    ensures { IfOk result (λ curve. curve.listing ≡ line_listing (texts line.now.words.now)) }
-{
-    let zero = [Ext::At(0)];
-    let items = if numbers.items.is_empty() {
-        zero.as_slice()
-    } else {
-        numbers.items.as_slice()
-    };
-    match Curve::of_list(alloc, items, i128::from(numbers.base)) {
-        Ok(curve) => Ok(curve),
-        Err(CurveFault::NoMemory) => Err(AllocError),
-        Err(_) => unreachable!(),
     }
 }

@@ -3,7 +3,7 @@ ghost use Rattle.std.specs.Prelude.{◌≡◌, ◌&&◌, ◌||◌, ◌==◌, not
 ghost use Rattle.std.specs.List.{list_any, zip};
 ghost use Rattle.theory.specs.Ends.{whole, is_below, is_finite};
 ghost use Rattle.theory.specs.CurveList.{item};
-ghost use Rattle.model_text.specs.ModelText.{are_over, is_over, is_misplaced, is_minus_inf, is_plus_inf};
+ghost use Rattle.model_text.specs.ModelText.{are_over, is_over, has_fall, is_misplaced, is_minus_inf, is_plus_inf};
 
 use mono_curve::NUMBER_MOST;
 use theory::Ext;
@@ -60,8 +60,9 @@ pub(crate) fn is_infinite_point(items: &[Ext]) -> bool
 }
 
 /// Whether an item isn't above the item two places before it.
+#[tactic(auto, unfolding(crate::specs::ModelText::has_fall))]
 pub(crate) fn has_fall(items: &[Ext]) -> bool
-    ensures { result ≡ list_any (λ pair. not (is_below pair.0 pair.1)) (zip items.now (drop 2 items.now)) }
+    ensures { result ≡ has_fall items.now }
 {
     items
         .iter()
@@ -72,10 +73,5 @@ pub(crate) fn has_fall(items: &[Ext]) -> bool
 fn is_below(low: Ext, high: Ext) -> bool
     ensures { result ≡ is_below low high }
 {
-    match (low, high) {
-        (Ext::MinusInf, Ext::At(_) | Ext::PlusInf) => true,
-        (Ext::At(low), Ext::At(high)) => low < high,
-        (Ext::At(_), Ext::PlusInf) => true,
-        _ => false,
-    }
+    low < high
 }

@@ -1,6 +1,7 @@
 //! The model text: names, the model, its printed form, and the reader that names the first bad line.
 #![tactic(auto)]
 
+mod addition;
 mod bytes;
 mod entry;
 mod fault;
