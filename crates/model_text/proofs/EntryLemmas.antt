@@ -1,21 +1,27 @@
 -- Numbers beyond the limit: what the reader keeps of them shows that they are, and the others are kept as they are.
-use Rattle.std.specs.Prelude.{◌≡◌, ℕ, ◌+◌, ◌≤◌, min, nat_lt, ℤ, pos, negsuc, neg_ℤ, Bool, true, false, ◌||◌, unsigned_abs, List, [], ◌∷◌, length, map, refl}
+use Rattle.std.specs.Prelude.{◌≡◌, ℕ, zero, suc, ◌+◌, ◌≤◌, min, nat_lt, ℤ, pos, negsuc, neg_ℤ, Bool, true, false, ◌||◌, unsigned_abs, List, [], ◌∷◌, length, map, refl}
 use Rattle.std.proofs.Common.{arith, sym, ◌∙◌, ap}
 use Rattle.std.proofs.lemmas.Bool.Decides.{nat_tests}
 use Rattle.theory.specs.declared.ext.Ext.{Ext}
 use Rattle.theory.specs.declared.ext.Ext.TheVariants.{MinusInf, At, PlusInf}
 use Rattle.theory.specs.Ends.{whole}
+use Rattle.theory.specs.Limits.{number_most}
+use Rattle.model_text.proofs.ListTests.{neither}
 use Rattle.model_text.specs.declared.model.TheConstants.{LIST_MOST}
 use Rattle.model_text.specs.ModelText.{is_over, are_over, is_beyond, list_words, line_items, line_base}
 use Rattle.model_text.specs.NearNumbers.{near_digits, near_number, near_item}
 
+over-neg : (m : ℕ) → is_over (neg_ℤ (pos m)) ≡ nat_lt number_most m
+over-neg zero = refl
+over-neg (suc m) = refl
+
 near-over : (z : ℤ) → is_over (near_number z) ≡ is_over z
 near-over (pos n) = grind (arith, nat_tests)
-near-over (negsuc n) = ?
+near-over (negsuc n) = over-neg (min (n + 1) 1000001) ∙ grind (arith, nat_tests)
 
 near-exact : (z : ℤ) → is_over z ≡ false → near_number z ≡ z
-near-exact (pos n) within = ap pos (grind (arith, nat_tests))
-near-exact (negsuc n) within = ?
+near-exact (pos n) within = let least : min n 1000001 ≡ n = grind (arith, nat_tests) in ap pos least
+near-exact (negsuc n) within = let least : min (n + 1) 1000001 ≡ suc n = grind (arith, nat_tests) in ap (λ m. neg_ℤ (pos m)) least
 
 items-over : (items : List Ext) → are_over (map near_item items) ≡ are_over items
 items-over [] = refl
@@ -26,7 +32,9 @@ items-over (PlusInf ∷ items) = items-over items
 items-exact : (items : List Ext) → are_over items ≡ false → map near_item items ≡ items
 items-exact [] within = refl
 items-exact (MinusInf ∷ items) within = ap (λ rest. MinusInf ∷ rest) (items-exact items within)
-items-exact (At z ∷ items) within = ?
+items-exact (At z ∷ items) within =
+    let two = neither (is_over z) (are_over items) within in
+    ap (λ number. At number ∷ map near_item items) (near-exact z two.0) ∙ ap (λ rest. At z ∷ rest) (items-exact items two.1)
 items-exact (PlusInf ∷ items) within = ap (λ rest. PlusInf ∷ rest) (items-exact items within)
 
 pub beyond_long : (words : List (List ℕ)) → nat_lt LIST_MOST (length (list_words words)) ≡ true → is_beyond words ≡ true

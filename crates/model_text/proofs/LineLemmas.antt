@@ -115,6 +115,10 @@ pub line_items-is : {words names base : List (List ℕ)} {kind : Kind} (list : L
 unfolding line_items
 line_items-is list parts = rw (← parts.list) (sym (near-items list))
 
+-- what a read past the end would give
+abbrev pub nothing : Bor (List ℕ)
+nothing = record { ref_ptr = (0, 0); now = [] }
+
 pub base-absent : {words names list : List (List ℕ)} {kind : Kind} (base : List (Bor (List ℕ))) → AreParts words kind names list (texts base)
     → length base < 2 → line_base words ≡ pos 0
 unfolding line_base
@@ -122,9 +126,9 @@ base-absent [] parts short = rw (← parts.base) refl
 base-absent (a ∷ []) parts short = rw (← parts.base) refl
 base-absent (a ∷ b ∷ base) parts short = absurd (omega arith)
 
-pub base-there : {words names list : List (List ℕ)} {kind : Kind} (base : List (Bor (List ℕ))) (d : Bor (List ℕ)) → AreParts words kind names list (texts base)
-    → 2 ≤ length base → line_base words ≡ unwrap_or (number_of (get_or base 1 d).now) (pos 0)
+pub base-there : {words names list : List (List ℕ)} {kind : Kind} (base : List (Bor (List ℕ))) → AreParts words kind names list (texts base)
+    → 2 ≤ length base → line_base words ≡ unwrap_or (number_of (get_or base 1 nothing).now) (pos 0)
 unfolding line_base
-base-there [] d parts long = absurd (omega arith)
-base-there (a ∷ []) d parts long = absurd (omega arith)
-base-there (a ∷ b ∷ base) d parts long = rw (← parts.base) refl
+base-there [] parts long = absurd (omega arith)
+base-there (a ∷ []) parts long = absurd (omega arith)
+base-there (a ∷ b ∷ base) parts long = rw (← parts.base) refl

@@ -1,5 +1,6 @@
 // Reading a model text.
 ghost use Rattle.std.specs.Prelude.{◌≡◌, ◌≤◌, ◌^◌, ◌||◌, length, map, IfOk, IfErr, OnOk};
+ghost use Rattle.std.specs.Str.{is_utf8};
 ghost use Rattle.model_text.specs.Lines.{line_words};
 ghost use Rattle.model_text.specs.ModelText.{Spells, has_words, is_header, line_tests, with_line};
 ghost use Rattle.model_text.specs.LineParts.{texts, Passes};
@@ -11,6 +12,7 @@ use crate::fault::{FaultWord, Refusal};
 use crate::model::Model;
 use crate::words::words_of;
 use std::alloc::Global;
+use std::str;
 use thiserror::Error;
 
 /// Why a text gave no model.
@@ -70,7 +72,7 @@ impl Reader {
         ensures begun { OnOk result (self.new.begun ≡ (self.old.begun || has_words line.now)) }
         ensures model { OnOk result (self.new.model.entries ≡ with_line self.old.model.entries (line_words line.now)) }
     {
-        if std::str::from_utf8(line).is_err() {
+        if !is_text(line) {
             return Err(Refusal::Fault(FaultWord::Utf8));
         }
         let Ok(words) = words_of(alloc, line) else {
@@ -88,6 +90,12 @@ impl Reader {
         self.begun = true;
         Ok(())
     }
+}
+
+fn is_text(line: &[u8]) -> bool
+    ensures { result ≡ is_utf8 line.now }
+{
+    str::from_utf8(line).is_ok()
 }
 
 fn is_header(words: &[&[u8]]) -> bool

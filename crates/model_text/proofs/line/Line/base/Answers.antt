@@ -7,5 +7,5 @@ returns-in_default c = rw (base-absent c.args.self.now.base.now c.args.self.now.
 
 pub returns-in-len2-up : goal.returns-in-len2-up
 returns-in-len2-up c =
-    let there = base-there c.args.self.now.base.now _ c.args.self.now.parts c.in-len2-up.len_at_least in
+    let there = base-there c.args.self.now.base.now c.args.self.now.parts c.in-len2-up.len_at_least in
     rw there (search rules)
