@@ -7,6 +7,13 @@ pub neither : (a b : Bool) → (a || b) ≡ false → (a ≡ false) × (b ≡ fa
 neither true b none = cc
 neither false b none = (refl, none)
 
+pub or-none : (b : Bool) → (b || false) ≡ b
+or-none true = refl
+or-none false = refl
+
+pub false-unless : (b : Bool) → (b ≡ true → ⊥) → b ≡ false
+false-unless b never = elim b as (λ v. (v ≡ true → ⊥) → v ≡ false) [ true ↦ λ given. absurd (given refl) | false ↦ λ given. refl ] never
+
 pub none-at : {X : Type 0} (p : X → Bool) (xs : List X) → list_any p xs ≡ false → (k : ℕ) (d : X) → k < length xs → p (get_or xs k d) ≡ false
 none-at p [] none k d below = absurd (omega arith)
 none-at p (x ∷ xs) none zero d below = (neither (p x) (list_any p xs) none).0

@@ -17,7 +17,7 @@ use Rattle.model_text.specs.Names.{is_name}
 use Rattle.model_text.specs.ModelText.{first_fault, word_at, names_wanted, is_node_line, is_arc_line, line_names, line_items, line_listing, lacks_names, lacks_numbers, is_beyond, is_full, is_misshapen, has_fall, is_twice, is_unknown, is_loop, with_line, node_place}
 use Rattle.model_text.specs.LineParts.{number_tests, model_tests}
 use Rattle.model_text.proofs.FirstPlace.{found}
-use Rattle.model_text.proofs.ListTests.{neither}
+use Rattle.model_text.proofs.ListTests.{neither, false-unless}
 
 -- ---- tests in turn
 
@@ -99,9 +99,6 @@ named-at names name place is =
     let at = found (bytes_eq name) names place (sym is) in
     let there = passes_at_first (bytes_eq name) names [] (rw at.0 at at.1) in
     rw at.0 ((bytes_eq-Decides name _).0 there)
-
-false-unless : (b : Bool) → (b ≡ true → ⊥) → b ≡ false
-false-unless b never = elim b as (λ v. (v ≡ true → ⊥) → v ≡ false) [ true ↦ λ given. absurd (given refl) | false ↦ λ given. refl ] never
 
 -- two different names have two different places
 module _ (names : List (List ℕ)) (one other : List ℕ) where

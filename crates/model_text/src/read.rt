@@ -4,7 +4,7 @@ ghost use Rattle.std.specs.Str.{is_utf8};
 ghost use Rattle.model_text.specs.Lines.{line_words};
 ghost use Rattle.model_text.specs.ModelText.{Spells, has_words, is_header, line_tests, with_line};
 ghost use Rattle.model_text.specs.LineParts.{texts, Passes};
-ghost use Rattle.model_text.specs.Reading.{IsRightError};
+ghost use Rattle.model_text.specs.Reading.{IsRightError, error_at};
 
 use crate::bytes::{are_same, cut};
 use crate::entry::read_entry;
@@ -43,8 +43,7 @@ pub fn read_model(alloc: Global, text: &[u8]) -> Result<Model, ModelError>
         count += 1;
         match reader.read_line(alloc, line) {
             Ok(()) => rest = after,
-            Err(Refusal::Fault(word)) => return Err(ModelError::Fault { line: count, word }),
-            Err(Refusal::NoMemory) => return Err(ModelError::NoMemory),
+            Err(refusal) => return Err(refusal.at(count)),
         }
     }
     let Reader { model, begun } = reader;
@@ -55,6 +54,17 @@ pub fn read_model(alloc: Global, text: &[u8]) -> Result<Model, ModelError>
             line: count + 1,
             word: FaultWord::Header,
         })
+    }
+}
+
+impl Refusal {
+    fn at(self, line: u32) -> ModelError
+        ensures { result ≡ error_at line self }
+    {
+        match self {
+            Refusal::Fault(word) => ModelError::Fault { line, word },
+            Refusal::NoMemory => ModelError::NoMemory,
+        }
     }
 }
 

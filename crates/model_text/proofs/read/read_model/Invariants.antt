@@ -11,6 +11,7 @@ decreases-loop-rest l = length l.rest
 abbrev pub invariant-loop-rest : goal.invariant-loop-rest
 invariant-loop-rest l = record {
   bytes : l.count + length l.rest ≤ length l.fn.text;
+  within : l.count ≤ length (text_lines l.fn.text);
   lines_left : drop l.count (text_lines l.fn.text) ≡ text_lines l.rest;
   model : l.reader.model.entries ≡ entries_of (take l.count (text_lines l.fn.text));
   begun : l.reader.begun ≡ list_any has_words (take l.count (text_lines l.fn.text));
