@@ -2,3 +2,9 @@ pub mod Names
 pub mod Model
 pub mod ModelTables
 pub mod Printed
+pub mod Lines
+pub mod NumberWords
+pub mod NearNumbers
+pub mod ModelText
+pub mod LineParts
+pub mod Reading

@@ -1,12 +1,23 @@
 //! The model text: names, the model, its printed form, and the reader that names the first bad line.
 #![tactic(auto)]
 
+mod addition;
+mod bytes;
+mod entry;
+mod fault;
+mod items;
+mod line;
 mod model;
 mod name;
+mod numbers;
 mod print;
+mod read;
 #[cfg(test)]
 mod tests;
+mod words;
 
+pub use fault::FaultWord;
 pub use model::{ARCS_MOST, AddFault, LIST_MOST, Model, NODES_MOST};
 pub use name::{NAME_MOST, Name, NameFault, is_name};
 pub use print::{append_end, append_line, append_list, append_number, append_word, print_model};
+pub use read::{ModelError, read_model};

@@ -1,0 +1,134 @@
+-- The parts of a line: its keyword, its names, its list, and what stands from `base` on.
+use Rattle.std.specs.Prelude.{◌≡◌, ℕ, ◌-◌, ◌<◌, min, Bool, true, false, not, ◌&&◌, ◌||◌, ◌≤◌, nat_lt, is_none, unwrap_or, pos, if◌then◌else◌, Option, None, Some, List, [], ◌∷◌, length, take, drop, map, codes, refl}
+use Rattle.std.specs.Borrow.{Bor}
+use Rattle.std.specs.List.{position_or_len, list_all, list_any}
+use Rattle.std.specs.Option.{option_map}
+use Rattle.std.specs.Str.{bytes_eq}
+use Rattle.std.proofs.Common.{arith, sym, ◌∙◌, ap, get_or}
+use Rattle.std.proofs.lemmas.List.{take_min, drop_min, take_rest, take-map, drop-map, length-map}
+use Rattle.std.proofs.lemmas.List.Folds.{list_all-map}
+use Rattle.std.proofs.lemmas.Slice.Eq.{bytes_eq-Decides}
+use Rattle.model_text.specs.declared.line.Kind.{Kind}
+use Rattle.model_text.specs.declared.line.Kind.TheVariants.{Node, Arc}
+use Rattle.model_text.specs.ModelText.{is_node_line, is_arc_line, is_base_word, line_names, list_words, base_words, names_wanted, body, list_count, lacks_names, lacks_numbers, is_no_base, line_items, line_base}
+use Rattle.model_text.specs.Names.{is_name}
+use Rattle.model_text.specs.NumberWords.{item_of, number_of}
+use Rattle.model_text.specs.NearNumbers.{near_item, near_number}
+use Rattle.theory.specs.declared.ext.Ext.TheVariants.{MinusInf}
+use Rattle.model_text.specs.LineParts.{texts, is_node, keyword_kind, AreParts}
+
+node-no-arc : (word : List ℕ) → bytes_eq word (codes "node") ≡ true → bytes_eq word (codes "arc") ≡ false
+node-no-arc word is = let e = (bytes_eq-Decides word (codes "node")).0 is in rw e refl
+
+kind-by : (n a : Bool) (kind : Kind) → (n ≡ true → a ≡ false) → (if n then Some Node else (if a then Some Arc else None)) ≡ Some kind
+    → (n ≡ is_node kind) × (a ≡ not (is_node kind))
+kind-by true a Node one is = (refl, one refl)
+kind-by true a Arc one is = cc
+kind-by false true Node one is = cc
+kind-by false true Arc one is = (refl, refl)
+kind-by false false kind one is = cc
+
+kind-is : (word : List ℕ) (kind : Kind) → keyword_kind word ≡ Some kind
+    → (bytes_eq word (codes "node") ≡ is_node kind) × (bytes_eq word (codes "arc") ≡ not (is_node kind))
+kind-is word kind is = kind-by (bytes_eq word (codes "node")) (bytes_eq word (codes "arc")) kind (node-no-arc word) is
+
+none-by : (n a : Bool) → ◌≡◌ {A = Option Kind} (if n then Some Node else (if a then Some Arc else None)) None → (n || a) ≡ false
+none-by true a is = cc
+none-by false true is = cc
+none-by false false is = refl
+
+-- no keyword in front, or no word at all
+pub no_keyword : (words : List (Bor (List ℕ))) (d : Bor (List ℕ)) → 0 < length words → keyword_kind (get_or words 0 d).now ≡ None
+    → (is_node_line (texts words) || is_arc_line (texts words)) ≡ false
+unfolding is_node_line is_arc_line
+no_keyword [] d some is = absurd (omega arith)
+no_keyword (word ∷ words) d some is = none-by (bytes_eq word.now (codes "node")) (bytes_eq word.now (codes "arc")) is
+
+pub no_words : (words : List (Bor (List ℕ))) → length words < 1 → (is_node_line (texts words) || is_arc_line (texts words)) ≡ false
+unfolding is_node_line is_arc_line
+no_words [] none = refl
+no_words (word ∷ words) none = absurd (omega arith)
+
+keyword-is : (words : List (Bor (List ℕ))) (d : Bor (List ℕ)) (kind : Kind) → 0 < length words → keyword_kind (get_or words 0 d).now ≡ Some kind
+    → (is_node_line (texts words) ≡ is_node kind) × (is_arc_line (texts words) ≡ not (is_node kind))
+unfolding is_node_line is_arc_line
+keyword-is [] d kind some is = absurd (omega arith)
+keyword-is (word ∷ words) d kind some is = kind-is word.now kind is
+
+take-texts : (n : ℕ) (words : List (Bor (List ℕ))) → texts (take n words) ≡ take n (texts words)
+take-texts n words = sym (take-map (λ word. word.now) n words)
+
+drop-texts : (n : ℕ) (words : List (Bor (List ℕ))) → texts (drop n words) ≡ drop n (texts words)
+drop-texts n words = sym (drop-map (λ word. word.now) n words)
+
+-- what the code cuts off, in turn
+pub parts : (words : List (Bor (List ℕ))) (d : Bor (List ℕ)) (kind : Kind) (wanted count : ℕ) (rest names after list base : List (Bor (List ℕ)))
+    → 0 < length words → keyword_kind (get_or words 0 d).now ≡ Some kind
+    → rest ≡ take (length words - 1) (drop 1 words) → wanted ≡ (if is_node kind then 1 else 3)
+    → names ≡ take (min wanted (length rest)) rest → after ≡ drop (min wanted (length rest)) rest
+    → count ≡ position_or_len is_base_word (texts after)
+    → list ≡ take count after → base ≡ drop count after
+    → AreParts (texts words) kind (texts names) (texts list) (texts base)
+unfolding line_names list_words base_words
+parts words d kind wanted count rest names after list base some is rest-is wanted-is names-is after-is count-is list-is base-is =
+    let kinds = keyword-is words d kind some is in
+    let rests : rest ≡ drop 1 words = rest-is ∙ take_rest words 1 in
+    let wants : wanted ≡ names_wanted (texts words) = wanted-is ∙ ap (λ b. if b then 1 else 3) (sym kinds.0) in
+    let bodies : texts after ≡ body (texts words) =
+        ap texts (after-is ∙ drop_min wanted rest ∙ ap (drop wanted) rests) ∙ drop-texts wanted (drop 1 words)
+        ∙ ap (drop wanted) (drop-texts 1 words) ∙ ap (λ n. drop n (drop 1 (texts words))) wants in
+    let counts : count ≡ list_count (texts words) = count-is ∙ ap (position_or_len is_base_word) bodies in
+    record {
+      node = kinds.0;
+      arc = kinds.1;
+      names =
+          ap texts (names-is ∙ take_min wanted rest ∙ ap (take wanted) rests) ∙ take-texts wanted (drop 1 words)
+          ∙ ap (take wanted) (drop-texts 1 words) ∙ ap (λ n. take n (drop 1 (texts words))) wants;
+      list = ap texts list-is ∙ take-texts count after ∙ rw (counts, bodies) refl;
+      base = ap texts base-is ∙ drop-texts count after ∙ rw (counts, bodies) refl }
+
+-- ---- the tests of a line, on its parts
+
+list_any-texts : (p : List ℕ → Bool) (words : List (Bor (List ℕ))) → list_any (λ word. p word.now) words ≡ list_any p (texts words)
+list_any-texts p [] = refl
+list_any-texts p (word ∷ words) = ap (λ b. p word.now || b) (list_any-texts p words)
+
+pub lacks_names-is : {words list base : List (List ℕ)} {kind : Kind} (names : List (Bor (List ℕ))) → AreParts words kind (texts names) list base
+    → lacks_names words ≡ (nat_lt (length names) (if is_node kind then 1 else 3) || not (list_all (λ word. is_name word.now) names))
+unfolding lacks_names
+lacks_names-is names parts =
+    rw (← parts.names, parts.node, list_all-map is_name (λ word. word.now) names, length-map) refl
+
+pub lacks_numbers-is : {words names : List (List ℕ)} {kind : Kind} (list base : List (Bor (List ℕ))) → AreParts words kind names (texts list) (texts base)
+    → lacks_numbers words ≡ (list_any (λ word. is_none (item_of word.now)) list || is_no_base (texts base))
+unfolding lacks_numbers
+lacks_numbers-is list base parts =
+    rw (← parts.list, ← parts.base, list_any-texts (λ word. is_none (item_of word)) list) refl
+
+near-items : (list : List (Bor (List ℕ)))
+    → map (λ word. near_item (unwrap_or (item_of word.now) MinusInf)) list ≡ map near_item (map (λ word. unwrap_or (item_of word) MinusInf) (texts list))
+near-items [] = refl
+near-items (word ∷ list) = ap (λ items. near_item (unwrap_or (item_of word.now) MinusInf) ∷ items) (near-items list)
+
+pub line_items-is : {words names base : List (List ℕ)} {kind : Kind} (list : List (Bor (List ℕ))) → AreParts words kind names (texts list) base
+    → map near_item (line_items words) ≡ map (λ word. near_item (unwrap_or (item_of word.now) MinusInf)) list
+unfolding line_items
+line_items-is list parts = rw (← parts.list) (sym (near-items list))
+
+-- what a read past the end would give
+abbrev pub nothing : Bor (List ℕ)
+nothing = record { ref_ptr = (0, 0); now = [] }
+
+pub base-absent : {words names list : List (List ℕ)} {kind : Kind} (base : List (Bor (List ℕ))) → AreParts words kind names list (texts base)
+    → length base < 2 → line_base words ≡ pos 0
+unfolding line_base
+base-absent [] parts short = rw (← parts.base) refl
+base-absent (a ∷ []) parts short = rw (← parts.base) refl
+base-absent (a ∷ b ∷ base) parts short = absurd (omega arith)
+
+pub base-there : {words names list : List (List ℕ)} {kind : Kind} (base : List (Bor (List ℕ))) → AreParts words kind names list (texts base)
+    → 2 ≤ length base → line_base words ≡ unwrap_or (number_of (get_or base 1 nothing).now) (pos 0)
+unfolding line_base
+base-there [] parts long = absurd (omega arith)
+base-there (a ∷ []) parts long = absurd (omega arith)
+base-there (a ∷ b ∷ base) parts long = rw (← parts.base) refl

@@ -1,0 +1,44 @@
+-- Digits read one after the other, where a value past the limit stays the first one past it.
+use Rattle.std.specs.Prelude.{◌≡◌, ℕ, ◌+◌, ◌-◌, ◌*◌, ◌<◌, ◌≤◌, min, Bool, true, ◌&&◌, List, [], ◌∷◌, length, drop, Option, None, Some, unwrap_or, refl}
+use Rattle.std.specs.Option.{option_map}
+use Rattle.theory.specs.declared.ext.Ext.{Ext}
+use Rattle.theory.specs.declared.ext.Ext.TheVariants.{MinusInf}
+use Rattle.std.specs.Str.{all_ascii_digits}
+use Rattle.std.specs.Str.Parse.{digits_value_after}
+use Rattle.std.specs.Char.{digit_value, is_ascii_digit}
+use Rattle.std.proofs.Common.{arith, sym, ◌∙◌, ap, get_or}
+use Rattle.std.proofs.lemmas.List.{drop_more}
+use Rattle.model_text.specs.NearNumbers.{near_digits, near_item}
+
+-- what digits after those of a number give
+abbrev pub near_after : ℕ → List ℕ → ℕ
+near_after n digits = near_digits (digits_value_after 10 n digits)
+
+-- a number past the limit stays past it
+after-min : (n : ℕ) (digits : List ℕ)
+    → min (digits_value_after 10 (min n 1000001) digits) 1000001 ≡ min (digits_value_after 10 n digits) 1000001
+after-min n [] = omega arith
+after-min n (d ∷ digits) =
+    sym (after-min (min n 1000001 * 10 + digit_value d) digits)
+    ∙ ap (λ m. min (digits_value_after 10 m digits) 1000001) (omega arith)
+    ∙ after-min (n * 10 + digit_value d) digits
+
+digit-is : (d : ℕ) → is_ascii_digit d ≡ true → digit_value d ≡ d - 48
+digit-is d is = grind arith
+
+-- one digit more
+pub near-step : (n i : ℕ) (digits : List ℕ) → i < length digits → is_ascii_digit (get_or digits i 0) ≡ true
+    → near_after n (drop i digits) ≡ near_after (min (10 * n + (get_or digits i 0 - 48)) 1000001) (drop (i + 1) digits)
+near-step n i digits below is =
+    ap (near_after n) (drop_more digits i 0 below)
+    ∙ ap (λ m. min (digits_value_after 10 m (drop (i + 1) digits)) 1000001) (let e = digit-is (get_or digits i 0) is in omega arith)
+    ∙ sym (after-min (10 * n + (get_or digits i 0 - 48)) (drop (i + 1) digits))
+
+pub digits-drop : (i : ℕ) (digits : List ℕ) → i < length digits
+    → all_ascii_digits (drop i digits) ≡ is_ascii_digit (get_or digits i 0) && all_ascii_digits (drop (i + 1) digits)
+digits-drop i digits below = ap all_ascii_digits (drop_more digits i 0 below)
+
+-- what isn't there is minus infinity, which stays as it is
+pub near-least : (found : Option Ext) → unwrap_or (option_map near_item found) MinusInf ≡ near_item (unwrap_or found MinusInf)
+near-least None = refl
+near-least (Some e) = refl

@@ -1,0 +1,103 @@
+-- Worked lines, computed by the definitions of the model text.
+use Rattle.std.specs.Prelude.{◌≡◌, ℕ, refl, true, false, Option, None, Some, List, [], ◌∷◌, ◌++◌, drop, map, codes, pos, neg_ℤ, replicate}
+use Rattle.std.proofs.Common.{arith}
+use Rattle.theory.specs.declared.ext.Ext.TheVariants.{MinusInf, At, PlusInf}
+use Rattle.std.specs.List.{list_any}
+use Rattle.model_text.specs.declared.fault.FaultWord.{FaultWord}
+use Rattle.model_text.specs.declared.fault.FaultWord.TheVariants.{Header, Keyword, Name, Number, Limit, Shape, Order, Twice, Unknown, Loop}
+use Rattle.model_text.specs.Names.{is_name}
+use Rattle.model_text.specs.Lines.{text_lines, line_words, content}
+use Rattle.model_text.specs.NumberWords.{number_of}
+use Rattle.model_text.specs.ModelText.{first_fault, line_tests, entry_tests, entries_of, with_line, line_listing, line_names, line_items, line_base, list_words, base_words, is_node_line, is_arc_line, lacks_names, lacks_numbers, is_beyond, is_full, is_misshapen, has_fall, is_twice, is_unknown, is_loop, is_header, has_words, IsFirstFault, no_words}
+
+-- the fault of a line by its words, after others; a test for UTF-8 doesn't compute here
+abbrev after : List (List ℕ) → List ℕ → Option FaultWord
+after before line = first_fault (drop 1 (line_tests (list_any has_words before) (entries_of before) line))
+
+-- the same after two nodes
+abbrev fourth : List ℕ → Option FaultWord
+fourth line = after (codes "network 1" ∷ codes "node s" ∷ codes "node t" ∷ []) line
+
+refused : List (List ℕ × FaultWord)
+refused =
+    (codes "pipe a", Keyword)
+    ∷ (codes "network 1", Keyword)
+    ∷ (codes "arc a s", Name)
+    ∷ (codes "arc a s t 0 1 x", Number)
+    ∷ (codes "arc a s t 0 1 2 base", Number)
+    ∷ (codes "arc a s t 0 base 1 base 2", Number)
+    ∷ (codes "arc a s t 0 1000001 x", Number)
+    ∷ (codes "arc a s t 1000001 base", Number)
+    ∷ (codes "arc a s t 0 1 1000001", Limit)
+    ∷ (codes "arc a s t 0 1000001", Limit)
+    ∷ (codes "arc a s t 0 base -1000001", Limit)
+    ∷ (codes "arc a s t 0 2", Shape)
+    ∷ (codes "arc a s t", Shape)
+    ∷ (codes "arc a s t +inf", Shape)
+    ∷ (codes "arc a s t 0 -inf 1", Shape)
+    ∷ (codes "arc a s t 0 2 4 2 10", Order)
+    ∷ (codes "arc a s t 3 0 3", Order)
+    ∷ (codes "node s", Twice)
+    ∷ (codes "arc a s z 0 1 2", Unknown)
+    ∷ (codes "arc a z z 0 1 2", Unknown)
+    ∷ (codes "arc a s s 0 1 2", Loop)
+    ∷ []
+
+refused_right : map (λ row. fourth row.0) refused ≡ map (λ row. Some row.1) refused
+unfolding refused line_tests entries_of with_line line_words content line_listing line_names line_items line_base list_words base_words is_node_line is_arc_line lacks_names lacks_numbers is_beyond is_full is_misshapen has_fall is_twice is_unknown is_loop is_header has_words
+refused_right = refl
+
+-- names come first, then the split at `base`
+accepted : List (List ℕ)
+accepted = codes "arc a s t 3" ∷ codes "arc a s t -1000000 -1000000 0 1000000 1000000" ∷ codes "node base 5" ∷ []
+
+accepted_right : map fourth accepted ≡ map (λ line. None) accepted
+unfolding accepted line_tests entries_of with_line line_words content line_listing line_names line_items line_base list_words base_words is_node_line is_arc_line lacks_names lacks_numbers is_beyond is_full is_misshapen has_fall is_twice is_unknown is_loop is_header has_words
+accepted_right = refl
+
+-- a used name and equal ends; `base` as a name and in its own place; no header before a line
+others : List (List (List ℕ) × List ℕ × Option FaultWord)
+others =
+    (codes "network 1" ∷ codes "node s" ∷ codes "arc a s t 0" ∷ [], codes "arc a s s 0", Some Twice)
+    ∷ (codes "network 1" ∷ codes "node base" ∷ codes "node t" ∷ [], codes "arc base base t -inf 5 inf base 7 # c", None)
+    ∷ (codes "# a" ∷ [], codes "node s", Some Header)
+    ∷ []
+
+others_right : map (λ row. after row.0 row.1) others ≡ map (λ row. row.2) others
+unfolding others line_tests entries_of with_line line_words content line_listing line_names line_items line_base list_words base_words is_node_line is_arc_line lacks_names lacks_numbers is_beyond is_full is_misshapen has_fall is_twice is_unknown is_loop is_header has_words
+others_right = refl
+
+words_right : line_words (codes "\tnode  n +2 03 06 base 10 # rest" ++ 13 ∷ [])
+    ≡ codes "node" ∷ codes "n" ∷ codes "+2" ∷ codes "03" ∷ codes "06" ∷ codes "base" ∷ codes "10" ∷ []
+unfolding line_words content
+words_right = refl
+
+-- a list with a base, one with two infinities, the empty list of a node
+listings_right : map (λ line. line_listing (line_words line)) (codes "node n +2 03 06 base 10" ∷ codes "arc a s t -inf 3 inf" ∷ codes "node n base 4" ∷ [])
+    ≡ record { items = At (pos 2) ∷ At (pos 3) ∷ At (pos 6) ∷ []; base = pos 10 }
+    ∷ record { items = MinusInf ∷ At (pos 3) ∷ PlusInf ∷ []; base = pos 0 }
+    ∷ record { items = At (pos 0) ∷ []; base = pos 4 }
+    ∷ []
+unfolding line_words content line_listing line_items line_base list_words base_words is_node_line
+listings_right = refl
+
+lines_right : text_lines (codes "a" ++ 13 ∷ 10 ∷ 10 ∷ codes "b") ≡ (codes "a" ++ 13 ∷ []) ∷ [] ∷ codes "b" ∷ []
+unfolding text_lines
+lines_right = refl
+
+-- one return goes, at the end alone: one before a comment stays in its word
+returns_right : map content ((codes "a" ++ 13 ∷ 13 ∷ []) ∷ (13 ∷ []) ∷ (codes "a" ++ 13 ∷ codes "#") ∷ [])
+    ≡ (codes "a" ++ 13 ∷ []) ∷ [] ∷ (codes "a" ++ 13 ∷ []) ∷ []
+unfolding content
+returns_right = refl
+
+names_right : map is_name (replicate 64 97 ∷ replicate 65 97 ∷ [] ∷ []) ≡ true ∷ false ∷ false ∷ []
+names_right = refl
+
+many_digits : number_of (codes "-0000000000000000000000000000000001000000") ≡ Some (neg_ℤ (pos 1000000))
+many_digits = refl
+
+-- a text without words lacks its header after the last line
+no_text : IsFirstFault [] 1 Header
+unfolding text_lines has_words
+no_text = no_words refl (λ k below. absurd (omega arith))

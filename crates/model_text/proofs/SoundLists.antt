@@ -1,0 +1,169 @@
+-- A list that passes the tests of a line is a curve list within the limits, and a curve refuses it for want of memory alone.
+use Rattle.std.specs.Prelude.{◌≡◌, ◌≢◌, ℕ, zero, suc, ◌+◌, ◌-◌, ◌%◌, ◌<◌, ◌≤◌, ◌==◌, nat_lt, ℤ, pos, negsuc, Bool, true, false, not, ◌&&◌, ◌||◌, unwrap_or, if◌then◌else◌, IsTrue, List, [], ◌∷◌, length, drop, take, refl}
+use Rattle.std.specs.List.{list_any, zip}
+use Rattle.std.proofs.Common.{arith, get_or, ◌∙◌, sym, ap, inl, inr, subst, lit≤, length-take, length-drop}
+use Rattle.std.proofs.lemmas.List.{get_or-drop, get_or-take, length-map}
+use Rattle.std.proofs.lemmas.Slice.Zip.{get_or-zip, length-zip}
+use Rattle.theory.proofs.Bounds.{within_more}
+use Rattle.std.proofs.lemmas.Bool.Decides.{nat_tests}
+use Rattle.std.proofs.lemmas.Int.{ints}
+use Rattle.theory.specs.declared.ext.Ext.{Ext}
+use Rattle.theory.specs.declared.ext.Ext.TheVariants.{MinusInf, At, PlusInf}
+use Rattle.theory.specs.Certificate.{IsWithin}
+use Rattle.theory.specs.CurveList.{IsCurveList, item}
+use Rattle.theory.specs.Ends.{IsFinite, IsBelow, is_finite, is_below, whole}
+use Rattle.theory.specs.Limits.{number_most, base_most, AreWithin}
+use Rattle.mono_curve.specs.CurveValue.{IsValidCurve}
+use Rattle.mono_curve.specs.Faults.{may_stand, IsPlaced, Rises, IsFault}
+use Rattle.mono_curve.specs.declared.fault.CurveFault.{CurveFault}
+use Rattle.mono_curve.specs.declared.fault.CurveFault.TheVariants.{Even, Long, Infinite, Magnitude, Order, NoMemory}
+use Rattle.model_text.specs.declared.model.TheConstants.{LIST_MOST}
+use Rattle.model_text.specs.ModelText.{is_over, are_over, is_misplaced, is_minus_inf, is_plus_inf, has_fall, is_beyond, is_misshapen, is_node_line, line_items, line_base, list_words, line_listing}
+use Rattle.model_text.specs.NumberWords.{item_of}
+use Rattle.model_text.proofs.ListTests.{neither, none-at}
+
+-- the tests of a list, passed
+pub record IsSound (items : List Ext) : Type 0 where
+  pub small : are_over items ≡ false
+  pub short : length items ≤ LIST_MOST
+  pub odd : length items % 2 ≡ 1
+  pub placed : is_misplaced items ≡ false
+  pub single : (length items == 1 && not (is_finite (item items 0))) ≡ false
+  pub rising : has_fall items ≡ false
+
+pub within : (z : ℤ) → is_over z ≡ false → IsWithin number_most z
+within (pos n) small = let most : n ≤ 1000000 = grind (arith, nat_tests) in (omega (arith, ints), omega (arith, ints))
+within (negsuc n) small = let most : n < 1000000 = grind (arith, nat_tests) in (omega (arith, ints), omega (arith, ints))
+
+not-minus : (items : List Ext) → is_misplaced items ≡ false → (k : ℕ) → 0 < k → k < length items → is_minus_inf (item items k) ≡ false
+not-minus [] placed k after below = absurd (omega arith)
+not-minus (e ∷ items) placed zero after below = absurd (omega arith)
+not-minus (e ∷ items) placed (suc k) after below = none-at is_minus_inf items (neither (list_any is_minus_inf items) _ placed).0 k MinusInf (omega arith)
+
+not-plus : (items : List Ext) → is_misplaced items ≡ false → (k : ℕ) → k + 1 < length items → is_plus_inf (item items k) ≡ false
+not-plus items placed k before =
+    let none = none-at is_plus_inf (take (length items - 1) items) (neither (list_any is_minus_inf (drop 1 items)) _ placed).1 k MinusInf
+        (omega (arith, length-take (length items - 1) items)) in
+    rw (get_or-take (length items - 1) items k MinusInf (omega arith)) at none
+
+finite-by : (e : Ext) → is_minus_inf e ≡ false → is_plus_inf e ≡ false → IsFinite e
+finite-by MinusInf m p = cc
+finite-by (At a) m p = refl
+finite-by PlusInf m p = cc
+
+single-finite : (items : List Ext) → (length items == 1 && not (is_finite (item items 0))) ≡ false → length items ≡ 1 → IsFinite (item items 0)
+single-finite items single one =
+    finite-in (is_finite (item items 0)) (length items == 1) (grind (arith, nat_tests)) single
+  where
+    finite-in : (f one : Bool) → one ≡ true → (one && not f) ≡ false → f ≡ true
+    finite-in true one is none = refl
+    finite-in false true is none = cc
+    finite-in false false is none = cc
+
+rises-by : (items : List Ext) → has_fall items ≡ false → (k : ℕ) → k + 2 < length items → IsBelow (item items k) (item items (k + 2))
+unfolding has_fall
+rises-by items rising k below =
+    let none = none-at (λ pair. not (is_below pair.0 pair.1)) (zip items (drop 2 items)) rising k (MinusInf, MinusInf)
+        (omega (arith, length-zip items (drop 2 items), length-drop 2 items)) in
+    let pair : get_or (zip items (drop 2 items)) k (MinusInf, MinusInf) ≡ (item items k, item items (k + 2)) =
+        get_or-zip items (drop 2 items) k (MinusInf, MinusInf) (omega arith) (omega (arith, length-drop 2 items))
+        ∙ ap (λ e. (item items k, e)) (get_or-drop 2 items k MinusInf ∙ ap (item items) (omega arith)) in
+    truly (is_below (item items k) (item items (k + 2))) (rw pair at none)
+  where
+    truly : (b : Bool) → not b ≡ false → b ≡ true
+    truly true none = refl
+    truly false none = cc
+
+last-by : (k count : ℕ) → k < count → (k + 1 < count → ⊥) → k + 1 ≡ count
+last-by k count below none = omega arith
+
+stands : (e : Ext) (count k : ℕ) → k < count → count % 2 ≡ 1 → (0 < k → is_minus_inf e ≡ false) → (k + 1 < count → is_plus_inf e ≡ false)
+    → (count ≡ 1 → k ≡ 0 → IsFinite e) → IsTrue (may_stand e count k)
+stands MinusInf count zero below odd minus plus single =
+    let more : count ≢ 1 = λ one. cc (single one refl) in grind (arith, nat_tests)
+stands MinusInf count (suc k) below odd minus plus single = cc (minus (omega arith))
+stands (At a) count k below odd minus plus single = refl
+stands PlusInf count k below odd minus plus single =
+    let last : k + 1 ≡ count = last-by k count below (λ less. cc (plus less)) in
+    let more : count ≢ 1 = λ one. cc (single one (omega arith)) in grind (arith, nat_tests)
+
+pub sound-list : (items : List Ext) → IsSound items → IsCurveList items
+sound-list items sound = record {
+  odd = sound.odd;
+  rises = rises-by items sound.rising;
+  inner_finite = λ k after before. finite-by (item items k) (not-minus items sound.placed k after (omega arith)) (not-plus items sound.placed k before);
+  single_finite = single-finite items sound.single }
+
+pub sound-placed : (items : List Ext) → IsSound items → (k : ℕ) → k < length items → IsPlaced items k
+sound-placed items sound k below =
+    stands (item items k) (length items) k below sound.odd (λ after. not-minus items sound.placed k after below) (not-plus items sound.placed k)
+        (λ one first. rw first (single-finite items sound.single one))
+
+pub sound-small : (items : List Ext) → IsSound items → AreWithin number_most items
+sound-small items sound k below = within (whole (item items k)) (none-at (λ e. is_over (whole e)) items sound.small k MinusInf below)
+
+sound-rises : (items : List Ext) → IsSound items → (k : ℕ) → k < length items → Rises items k
+sound-rises items sound k below after =
+    let rises = rises-by items sound.rising (k - 2) (omega arith) in
+    let there : k - 2 + 2 ≡ k = omega arith in
+    rw there at rises
+
+-- no fault of a curve but the want of memory
+pub only_memory : (items : List Ext) (base : ℤ) → IsSound items → IsWithin number_most base → (fault : CurveFault) → IsFault items base fault → fault ≡ NoMemory
+only_memory items base sound small Even is = absurd (omega (arith, sound.odd))
+only_memory items base sound small Long is = absurd (omega (arith, sound.short, is.1))
+only_memory items base sound small (Infinite k) is = absurd (is.1.fails (sound-placed items sound k is.1.there))
+only_memory items base sound small (Magnitude k) (placed, inl first) = absurd (first.fails (sound-small items sound k first.there))
+only_memory items base sound small (Magnitude k) (placed, inr large) = absurd (large.2 (within_more 1000000 base_most base (lit≤ tt) small))
+only_memory items base sound small (Order k) is = absurd (is.3.fails (sound-rises items sound k is.3.there))
+only_memory items base sound small NoMemory is = refl
+
+-- ---- the list of a line, where it passes
+
+-- an empty list of a node stands for the one point 0
+abbrev pub filled : List Ext → List Ext
+filled items = if length items == 0 then At (pos 0) ∷ [] else items
+
+filled-some : (e : Ext) (items : List Ext) → filled (e ∷ items) ≡ e ∷ items
+filled-some e items =
+    let some : (length (e ∷ items) == 0) ≡ false = grind (arith, nat_tests) in
+    ap (λ b. if b then At (pos 0) ∷ [] else e ∷ items) some
+
+pub sound-filled : (items : List Ext) (is_node : Bool) → nat_lt LIST_MOST (length items) ≡ false → are_over items ≡ false
+    → (length items % 2 == 0 && not (is_node && length items == 0)) ≡ false → is_misplaced items ≡ false
+    → (length items == 1 && not (is_finite (item items 0))) ≡ false → has_fall items ≡ false → IsSound (filled items)
+unfolding has_fall
+sound-filled [] is_node short small count placed single rising =
+    record { small = refl; short = omega arith; odd = refl; placed = refl; single = refl; rising = refl }
+sound-filled (e ∷ items) is_node short small count placed single rising = subst IsSound (sym (filled-some e items)) (record {
+  small = small;
+  short = grind (arith, nat_tests);
+  odd = odd-by (length (e ∷ items)) is_node (omega arith) count;
+  placed = placed;
+  single = single;
+  rising = rising })
+  where
+    odd-by : (n : ℕ) (node : Bool) → 0 < n → (n % 2 == 0 && not (node && n == 0)) ≡ false → n % 2 ≡ 1
+    odd-by n node some count = grind (arith, nat_tests)
+
+items-count : (words : List (List ℕ)) → length (line_items words) ≡ length (list_words words)
+unfolding line_items
+items-count words = length-map (list_words words) (λ word. unwrap_or (item_of word) MinusInf)
+
+module _ (words : List (List ℕ)) (limit : is_beyond words ≡ false) (shape : is_misshapen words ≡ false) (order : has_fall (line_items words) ≡ false) where
+  pub sound-line : IsSound (line_listing words).items
+  unfolding is_beyond is_misshapen line_listing
+  sound-line =
+      let one = neither (nat_lt LIST_MOST (length (list_words words)) || are_over (line_items words)) (is_over (line_base words)) limit in
+      let two = neither (nat_lt LIST_MOST (length (list_words words))) (are_over (line_items words)) one.0 in
+      let three = neither ((length (line_items words) % 2 == 0 && not (is_node_line words && length (line_items words) == 0)) || is_misplaced (line_items words)) _ shape in
+      let four = neither _ (is_misplaced (line_items words)) three.0 in
+      sound-filled (line_items words) (is_node_line words) (rw (items-count words) two.0) two.1 four.0 four.1 three.1 order
+
+  pub sound-base : IsWithin number_most (line_listing words).base
+  unfolding is_beyond line_listing
+  sound-base = within (line_base words) (neither (nat_lt LIST_MOST (length (list_words words)) || are_over (line_items words)) (is_over (line_base words)) limit).1
+
+pub listing-is : (words : List (List ℕ)) → line_listing words ≡ record { items = filled (line_items words); base = line_base words }
+unfolding line_listing
+listing-is words = refl

@@ -1,0 +1,46 @@
+-- The parts of a line as the reader keeps them.
+use Rattle.std.specs.Prelude.{◌≡◌, ℕ, Bool, true, false, not, if◌then◌else◌, Option, None, Some, Result, Ok, Err, List, [], ◌∷◌, map, codes}
+use Rattle.std.specs.Str.{bytes_eq}
+use Rattle.std.specs.Borrow.{Bor}
+use Rattle.model_text.specs.declared.line.Kind.{Kind}
+use Rattle.model_text.specs.declared.line.Kind.TheVariants.{Node, Arc}
+use Rattle.theory.specs.Grounded.{Entries}
+use Rattle.model_text.specs.declared.fault.FaultWord.{FaultWord}
+use Rattle.model_text.specs.declared.fault.FaultWord.TheVariants.{Name, Number, Limit, Shape, Order, Twice, Unknown, Loop}
+use Rattle.model_text.specs.declared.fault.Refusal.{Refusal}
+use Rattle.model_text.specs.declared.fault.Refusal.TheVariants.{Fault, NoMemory}
+use Rattle.model_text.specs.ModelText.{is_node_line, is_arc_line, line_names, list_words, base_words, first_fault, lacks_names, lacks_numbers, is_beyond, is_full, is_misshapen, line_items, has_fall, is_twice, is_unknown, is_loop}
+
+abbrev pub texts : List (Bor (List ℕ)) → List (List ℕ)
+texts words = map (λ word. word.now) words
+
+abbrev pub is_node : Kind → Bool
+is_node Node = true
+is_node Arc = false
+
+pub record AreParts (words : List (List ℕ)) (kind : Kind) (named listed based : List (List ℕ)) : Type 0 where
+  pub node : is_node_line words ≡ is_node kind
+  pub arc : is_arc_line words ≡ not (is_node kind)
+  pub names : named ≡ line_names words
+  pub list : listed ≡ list_words words
+  pub base : based ≡ base_words words
+
+abbrev pub keyword_kind : List ℕ → Option Kind
+keyword_kind word = if bytes_eq word (codes "node") then Some Node else (if bytes_eq word (codes "arc") then Some Arc else None)
+
+-- ---- how far the reader is with a line
+
+-- the tests that need no model, and those that need it
+abbrev pub number_tests : List (List ℕ) → List (Bool × FaultWord)
+number_tests words = (lacks_names words, Name) ∷ (lacks_numbers words, Number) ∷ (is_beyond words, Limit) ∷ []
+
+abbrev pub model_tests : Entries → List (List ℕ) → List (Bool × FaultWord)
+model_tests m words =
+    (is_full m words, Limit) ∷ (is_misshapen words, Shape) ∷ (has_fall (line_items words), Order)
+    ∷ (is_twice m words, Twice) ∷ (is_unknown m words, Unknown) ∷ (is_loop words, Loop) ∷ []
+
+-- the tests are passed, or the refusal tells the first that isn't, or memory was short
+abbrev pub Passes : {A : Type 0} → List (Bool × FaultWord) → Result A Refusal → Type 0
+Passes tests (Ok value) = first_fault tests ≡ None
+Passes tests (Err (Fault word)) = first_fault tests ≡ Some word
+Passes tests (Err NoMemory) = Unit {0}

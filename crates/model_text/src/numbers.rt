@@ -1,0 +1,71 @@
+// Words that are numbers, and words that are items of a list.
+ghost use Rattle.std.specs.Prelude.{◌≡◌, is_none, unwrap_or, pos};
+ghost use Rattle.std.specs.Option.{option_map};
+ghost use Rattle.model_text.specs.NumberWords.{digits_of, number_of, item_of};
+ghost use Rattle.model_text.specs.NearNumbers.{near_digits, near_number, near_item};
+
+use crate::bytes::are_same;
+use theory::Ext;
+
+/// The first number beyond the limit of a model, which stands for all that are greater.
+const BEYOND: u32 = 1_000_001;
+
+/// The item that a word is: an infinity or a number.
+pub(crate) fn item(word: &[u8]) -> Option<Ext>
+    ensures { result ≡ option_map near_item (item_of word.now) }
+{
+    if are_same(word, b"-inf") {
+        Some(Ext::MinusInf)
+    } else if are_same(word, b"+inf") || are_same(word, b"inf") {
+        Some(Ext::PlusInf)
+    } else {
+        number(word).map(|number| Ext::At(number))
+    }
+}
+
+pub(crate) fn is_no_item(word: &[u8]) -> bool
+    ensures { result ≡ is_none (item_of word.now) }
+{
+    item(word).is_none()
+}
+
+/// The item, or minus infinity for a word that is none.
+pub(crate) fn item_or_least(word: &[u8]) -> Ext
+    ensures { result ≡ near_item (unwrap_or (item_of word.now) Ext.MinusInf) }
+{
+    item(word).unwrap_or(Ext::MinusInf)
+}
+
+/// The number, or 0 for a word that is none.
+pub(crate) fn number_or_zero(word: &[u8]) -> i64
+    ensures { result ≡ near_number (unwrap_or (number_of word.now) (pos 0)) }
+{
+    number(word).unwrap_or(0)
+}
+
+/// The number that a word is, of any count of digits.
+pub(crate) fn number(word: &[u8]) -> Option<i64>
+    ensures { result ≡ option_map near_number (number_of word.now) }
+{
+    match word {
+        [b'-', digits @ ..] => Some(-i64::from(magnitude(digits)?)),
+        [b'+', digits @ ..] => Some(i64::from(magnitude(digits)?)),
+        _ => Some(i64::from(magnitude(word)?)),
+    }
+}
+
+fn magnitude(digits: &[u8]) -> Option<u32>
+    ensures { result ≡ option_map near_digits (digits_of digits.now) }
+{
+    if digits.is_empty() {
+        return None;
+    }
+    let mut value = 0;
+    for digit in digits {
+        if !digit.is_ascii_digit() {
+            return None;
+        }
+        value = (10 * value + u32::from(*digit - b'0')).min(BEYOND);
+    }
+    Some(value)
+}
