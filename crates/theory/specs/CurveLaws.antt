@@ -1,5 +1,5 @@
 -- Laws of one curve: duality of cost and conjugate cost, and the order of the pairs on the curve.
-use Rattle.std.specs.Prelude.{◌≡◌, ℕ, ◌≤◌, ℤ, pos, ◌+ℤ◌, ◌-ℤ◌, ◌*ℤ◌, ◌≤ℤ◌, ◌<ℤ◌, List}
+use Rattle.std.specs.Prelude.{◌≡◌, ℕ, ◌≤◌, ℤ, pos, ◌+ℤ◌, ◌*ℤ◌, ◌≤ℤ◌, ◌<ℤ◌, List}
 use Rattle.theory.specs.declared.ext.Ext.{Ext}
 use Rattle.theory.specs.CurveList.{IsCurveList, Listing}
 use Rattle.theory.specs.Domain.{InDomain}

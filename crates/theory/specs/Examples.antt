@@ -1,5 +1,5 @@
 -- Worked examples: small models, with what the definitions give for them (the statements stand in src/examples.rt).
-use Rattle.std.specs.Prelude.{ℕ, ℤ, pos, negsuc, Bool, true, false, List, [], ◌∷◌, codes}
+use Rattle.std.specs.Prelude.{ℕ, ℤ, pos, negsuc, true, false, List, [], ◌∷◌, codes}
 use Rattle.theory.specs.declared.ext.Ext.{Ext}
 use Rattle.theory.specs.declared.ext.Ext.TheVariants.{MinusInf, At, PlusInf}
 use Rattle.theory.specs.declared.network.Step.{Step}
@@ -54,7 +54,8 @@ ordinary = grounded (one_arc (listed two_slopes))
 abbrev pub one_certificate_only : Network
 one_certificate_only = grounded (record {
   nodes = node (codes "s") (listed (MinusInf ∷ At (pos 2) ∷ PlusInf ∷ [])) ∷ node (codes "t") (single (negsuc 4)) ∷ [];
-  arcs = arc (codes "a") 0 1 (listed two_slopes) ∷ [] })
+  arcs = arc (codes "a") 0 1 (listed two_slopes) ∷ [];
+})
 
 -- the arc carries 3 at most
 abbrev pub too_narrow : Network
@@ -64,13 +65,15 @@ too_narrow = grounded (one_arc (listed (At (pos 0) ∷ At (pos 1) ∷ At (pos 3)
 abbrev pub just_wide_enough : Network
 just_wide_enough = grounded (record {
   nodes = node (codes "s") (single (pos 3)) ∷ node (codes "t") (single (negsuc 2)) ∷ [];
-  arcs = arc (codes "a") 0 1 (listed (At (pos 0) ∷ At (pos 1) ∷ At (pos 3) ∷ [])) ∷ [] })
+  arcs = arc (codes "a") 0 1 (listed (At (pos 0) ∷ At (pos 1) ∷ At (pos 3) ∷ [])) ∷ [];
+})
 
 -- no supplies; an arc from s to t and one back, both without an upper end, at these slopes
 abbrev pub there_and_back : ℤ → ℤ → Network
 there_and_back there back = grounded (record {
   nodes = node (codes "s") (single (pos 0)) ∷ node (codes "t") (single (pos 0)) ∷ [];
-  arcs = arc (codes "a") 0 1 (listed (At (pos 0) ∷ At there ∷ PlusInf ∷ [])) ∷ arc (codes "b") 1 0 (listed (At (pos 0) ∷ At back ∷ PlusInf ∷ [])) ∷ [] })
+  arcs = arc (codes "a") 0 1 (listed (At (pos 0) ∷ At there ∷ PlusInf ∷ [])) ∷ arc (codes "b") 1 0 (listed (At (pos 0) ∷ At back ∷ PlusInf ∷ [])) ∷ [];
+})
 
 -- a step over an arc, by its grounded number
 abbrev pub forward_over : ℕ → Step
@@ -87,7 +90,8 @@ full_horizontal_line = grounded (record { nodes = node (codes "s") (listed full_
 abbrev pub ring : Network
 ring = grounded (record {
   nodes = node (codes "p") (single (pos 0)) ∷ node (codes "q") (single (pos 0)) ∷ node (codes "r") (single (pos 0)) ∷ [];
-  arcs = arc (codes "a") 0 1 (listed two_slopes) ∷ arc (codes "b") 1 2 (listed two_slopes) ∷ arc (codes "c") 2 0 (listed two_slopes) ∷ [] })
+  arcs = arc (codes "a") 0 1 (listed two_slopes) ∷ arc (codes "b") 1 2 (listed two_slopes) ∷ arc (codes "c") 2 0 (listed two_slopes) ∷ [];
+})
 
 -- the circuit that an arc of the ring closes with the ground arcs: the arc, back to the ground, and out again
 abbrev pub over_ground : ℕ → ℕ → ℕ → List Step

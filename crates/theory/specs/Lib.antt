@@ -9,6 +9,8 @@ pub mod ConjugateCost
 pub mod OnCurve
 pub mod Views
 pub mod Readings
+pub mod Limits
+pub mod PieceAt
 -- Laws of curves:
 pub mod CurveLaws
 pub mod ViewLaws

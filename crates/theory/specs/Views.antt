@@ -1,5 +1,5 @@
 -- The lists of the curves that are derived from one: conjugate, reversed, zero-cost, level.
-use Rattle.std.specs.Prelude.{ℕ, ◌^◌, ℤ, pos, neg_ℤ, Bool, true, false, not, ◌&&◌, if◌then◌else◌, int_le, List, [], ◌∷◌, map, reverse}
+use Rattle.std.specs.Prelude.{ℕ, ◌^◌, pos, Bool, not, ◌&&◌, if◌then◌else◌, List, [], ◌∷◌, map, reverse}
 use Rattle.std.specs.Int.{int_div_euclid}
 use Rattle.theory.specs.declared.ext.Ext.{Ext}
 use Rattle.theory.specs.declared.ext.Ext.TheVariants.{MinusInf, At, PlusInf}

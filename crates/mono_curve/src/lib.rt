@@ -1,0 +1,5 @@
+#![tactic(auto)]
+
+mod steps;
+
+pub use steps::Steps;

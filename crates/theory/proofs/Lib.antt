@@ -1,0 +1,33 @@
+-- Arithmetic of whole numbers:
+pub mod Rings
+pub mod Sums
+pub mod SumsBelow
+-- Curve lists:
+pub mod Ends
+pub mod Shape
+pub mod Places
+pub mod Bounds
+pub mod Clip
+-- Laws of curves:
+pub mod Scaling
+pub mod Pairs
+pub mod Fenchel
+pub mod Equality
+pub mod Whole
+-- Derived curves:
+pub mod ReversedList
+pub mod ReversedPairs
+pub mod ReversedCost
+pub mod ZeroCost
+pub mod ConjugateList
+pub mod Parts
+pub mod ConjugateCost
+pub mod Rounding
+pub mod Level
+-- Networks and certificates:
+pub mod SumLaw
+pub mod Duality
+pub mod Refusals
+pub mod Unbounded
+pub mod Certificates
+pub mod GroundedLaw
