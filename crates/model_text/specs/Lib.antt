@@ -1,2 +1,4 @@
 pub mod Names
+pub mod Model
+pub mod ModelTables
 pub mod Printed

@@ -1,12 +1,13 @@
 -- The printed form: a text of lines, each a keyword and words that each follow one space.
-use Rattle.std.specs.Prelude.{ℕ, ◌+◌, ℤ, pos, if◌then◌else◌, List, [], ◌∷◌, ◌++◌, map, codes}
+use Rattle.std.specs.Prelude.{ℕ, ℤ, pos, if◌then◌else◌, List, [], ◌∷◌, ◌++◌, map, codes}
 use Rattle.std.specs.Ordering.{int_eq}
 use Rattle.std.specs.Fmt.{signed_decimal}
 use Rattle.std.specs.List.{flat_map}
 use Rattle.theory.specs.declared.ext.Ext.{Ext}
 use Rattle.theory.specs.declared.ext.Ext.TheVariants.{MinusInf, At, PlusInf}
 use Rattle.theory.specs.CurveList.{Listing}
-use Rattle.theory.specs.Grounded.{Entries, NodeEntry, ArcEntry, node_name}
+use Rattle.theory.specs.Grounded.{Entries, NodeEntry, ArcEntry}
+use Rattle.model_text.specs.Model.{node_at}
 
 -- the one shortest decimal form, with `-` before a negative number
 abbrev pub printed_number : ℤ → List ℕ
@@ -25,12 +26,15 @@ spaced words = flat_map (λ word. 32 ∷ word) words
 abbrev pub printed_line : List ℕ → List (List ℕ) → List ℕ
 printed_line keyword words = keyword ++ spaced words ++ 10 ∷ []
 
--- a list written in full, and its base exactly where that isn't 0
+-- a list is written in full, and its base exactly where that isn't 0
+abbrev pub list_words : List Ext → List (List ℕ)
+list_words items = map printed_end items
+
 abbrev pub base_words : ℤ → List (List ℕ)
 base_words base = if int_eq base (pos 0) then [] else (codes "base" ∷ printed_number base ∷ [])
 
 abbrev pub curve_words : Listing → List (List ℕ)
-curve_words curve = map printed_end curve.items ++ base_words curve.base
+curve_words curve = list_words curve.items ++ base_words curve.base
 
 -- ---- the printed form of a model: the header, a line per node, a line per arc
 
@@ -39,8 +43,9 @@ printed_node node = printed_line (codes "node") (node.name ∷ curve_words node.
 
 abbrev pub printed_arc : Entries → ArcEntry → List ℕ
 printed_arc m arc =
-    printed_line (codes "arc") (arc.name ∷ node_name m (arc.from + 1) ∷ node_name m (arc.to + 1) ∷ curve_words arc.curve)
+    printed_line (codes "arc")
+      (arc.name ∷ (node_at m arc.from).name ∷ (node_at m arc.to).name ∷ curve_words arc.curve)
 
 abbrev pub printed_model : Entries → List ℕ
 printed_model m =
-    printed_line (codes "network") (codes "1" ∷ []) ++ flat_map printed_node m.nodes ++ flat_map (printed_arc m) m.arcs
+    printed_line (codes "network 1") [] ++ flat_map printed_node m.nodes ++ flat_map (printed_arc m) m.arcs

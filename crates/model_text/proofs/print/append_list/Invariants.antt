@@ -1,7 +1,7 @@
-use Rattle.std.proofs.Common.{◌≡◌, ◌++◌, map, take, vec_len}
-use Rattle.model_text.specs.Printed.{printed_end, spaced}
+use Rattle.std.proofs.Common.{◌≡◌, ◌++◌, take}
+use Rattle.model_text.specs.Printed.{list_words, spaced}
 use Rattle.model_text.proofs.print.append_list.Given as goal
 
-abbrev pub invariant-loop-item : goal.invariant-loop-item
-invariant-loop-item l =
-    (l.out.items ≡ l.initial.out.items ++ spaced (map printed_end (take l.item-index l.items)))
+abbrev pub invariant-loop-i : goal.invariant-loop-i
+invariant-loop-i g l =
+    (l.out.items ≡ l.initial.out.items ++ spaced (list_words (take l.i (g.C.Listed.listing l.curve).items)))

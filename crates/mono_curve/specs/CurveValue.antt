@@ -1,0 +1,19 @@
+-- What a curve is, seen from outside: its list and base, and that they are those of a curve within the limits.
+use Rattle.std.specs.Prelude.{ℕ, ◌≤◌, length}
+use Rattle.theory.specs.CurveList.{IsCurveList, Listing}
+use Rattle.theory.specs.Limits.{AreWithin, number_most, base_most}
+use Rattle.theory.specs.Certificate.{IsWithin}
+
+-- the most items of a curve: those of a model's list, and one more at either end
+abbrev pub items_most : ℕ
+items_most = 4003
+
+pub record IsValidCurve (c : Listing) : Type 0 where
+  pub is_list : IsCurveList c.items
+  pub short : length c.items ≤ items_most
+  pub items_within : AreWithin number_most c.items
+  pub base_within : IsWithin base_most c.base
+
+pub record CurveValue : Type 0 where
+  pub listing : Listing
+  pub valid : IsValidCurve listing

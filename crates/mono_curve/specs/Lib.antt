@@ -1,0 +1,2 @@
+pub mod CurveValue
+pub mod Faults

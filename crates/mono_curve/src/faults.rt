@@ -1,0 +1,107 @@
+// The tests of a list, in their order.
+ghost use Rattle.std.specs.Prelude.{◌≡◌, ℕ, ◌↔◌, ◌<◌, IsTrue, MatchOption, MatchResult, length};
+ghost use Rattle.theory.specs.Ends.{whole, is_below};
+ghost use Rattle.theory.specs.Limits.{number_most, base_most};
+ghost use Rattle.theory.specs.Certificate.{IsWithin};
+ghost use Rattle.mono_curve.specs.CurveValue.{IsValidCurve};
+ghost use Rattle.mono_curve.specs.Faults.{may_stand, IsPlaced, IsSmall, Rises, IsFirstToFail, IsFault};
+
+use crate::fault::CurveFault;
+use crate::limits::{BASE_MOST, ITEMS_MOST, NUMBER_MOST};
+use theory::Ext;
+use theory::pricing::whole_of;
+
+// ---- one item
+
+fn stands_well(item: Ext, count: usize, k: usize) -> bool
+    requires { k < count }
+    ensures { result ≡ may_stand item count k }
+{
+    match item {
+        Ext::MinusInf => 3 <= count && k == 0,
+        Ext::At(_) => true,
+        Ext::PlusInf => 3 <= count && k + 1 == count,
+    }
+}
+
+fn is_small(item: Ext) -> bool
+    ensures { IsTrue result ↔ IsWithin number_most (whole item) }
+{
+    let number = whole_of(item);
+    -NUMBER_MOST <= number && number <= NUMBER_MOST
+}
+
+fn is_small_base(base: i128) -> bool
+    ensures { IsTrue result ↔ IsWithin base_most base }
+{
+    -BASE_MOST <= base && base <= BASE_MOST
+}
+
+/// Whether the end is strictly below the other.
+pub fn precedes(end: Ext, other: Ext) -> bool
+    ensures { result ≡ is_below end other }
+{
+    end < other
+}
+
+// ---- the first place that fails
+
+fn first_misplaced(items: &[Ext]) -> Option<usize>
+    ensures { MatchOption result ((k : ℕ) → k < length items.now → IsPlaced items.now k) (IsFirstToFail (IsPlaced items.now) (length items.now)) }
+{
+    for k in 0..items.len() {
+        if !stands_well(items[k], items.len(), k) {
+            return Some(k);
+        }
+    }
+    None
+}
+
+fn first_large(items: &[Ext]) -> Option<usize>
+    ensures { MatchOption result ((k : ℕ) → k < length items.now → IsSmall items.now k) (IsFirstToFail (IsSmall items.now) (length items.now)) }
+{
+    for k in 0..items.len() {
+        if !is_small(items[k]) {
+            return Some(k);
+        }
+    }
+    None
+}
+
+fn first_not_rising(items: &[Ext]) -> Option<usize>
+    ensures { MatchOption result ((k : ℕ) → k < length items.now → Rises items.now k) (IsFirstToFail (Rises items.now) (length items.now)) }
+{
+    for k in 2..items.len() {
+        if !precedes(items[k - 2], items[k]) {
+            return Some(k);
+        }
+    }
+    None
+}
+
+// ---- the whole list
+
+/// The first fault of a list, if it has one.
+pub fn check(items: &[Ext], base: i128) -> Result<(), CurveFault>
+    ensures { MatchResult result (λ _. IsValidCurve (record { items = items.now; base = base })) (IsFault items.now base) }
+{
+    if items.len() % 2 == 0 {
+        return Err(CurveFault::Even);
+    }
+    if items.len() > ITEMS_MOST {
+        return Err(CurveFault::Long);
+    }
+    if let Some(k) = first_misplaced(items) {
+        return Err(CurveFault::Infinite(k));
+    }
+    if let Some(k) = first_large(items) {
+        return Err(CurveFault::Magnitude(k));
+    }
+    if !is_small_base(base) {
+        return Err(CurveFault::Magnitude(items.len()));
+    }
+    if let Some(k) = first_not_rising(items) {
+        return Err(CurveFault::Order(k));
+    }
+    Ok(())
+}

@@ -1,0 +1,4 @@
+pub mod Rows
+pub mod Incident
+pub mod Divergence
+pub mod BadSteps
