@@ -52,7 +52,8 @@ fn append_head(out: &mut Vec<u8>, kind: &[u8]) -> Result<(), AllocError>
     out.extend_from_slice(b"certificate")?;
     append_word(out, b"1")?;
     append_word(out, kind)?;
-    out.push(b'\n')
+    out.push(b'\n')?;
+    Ok(())
 }
 
 fn append_number_line(out: &mut Vec<u8>, keyword: &[u8], number: i128) -> Result<(), AllocError>
@@ -60,7 +61,8 @@ fn append_number_line(out: &mut Vec<u8>, keyword: &[u8], number: i128) -> Result
 {
     out.extend_from_slice(keyword)?;
     append_number(out, number)?;
-    out.push(b'\n')
+    out.push(b'\n')?;
+    Ok(())
 }
 
 /// The potential and the supply of each model node.
@@ -89,7 +91,8 @@ fn append_potential(out: &mut Vec<u8>, m: &Model, i: u32, u: i64, y: i64) -> Res
     append_word(out, m.node_name(i))?;
     append_number(out, i128::from(u))?;
     append_number(out, i128::from(y))?;
-    out.push(b'\n')
+    out.push(b'\n')?;
+    Ok(())
 }
 
 /// The flows of the ground arcs.
@@ -121,7 +124,8 @@ fn append_flow(out: &mut Vec<u8>, m: &Model, j: u32, x: i64) -> Result<(), Alloc
 {
     append_arc_name(out, m, j)?;
     append_number(out, i128::from(x))?;
-    out.push(b'\n')
+    out.push(b'\n')?;
+    Ok(())
 }
 
 /// `node NAME` of a ground arc, `arc NAME` of a model's arc.
@@ -165,7 +169,8 @@ fn append_side_line(out: &mut Vec<u8>, m: &Model, i: u32, held: bool) -> Result<
     }
     out.extend_from_slice(b"side")?;
     append_node_name(out, m, i)?;
-    out.push(b'\n')
+    out.push(b'\n')?;
+    Ok(())
 }
 
 /// A space and the printed name of a grounded node.
@@ -197,5 +202,6 @@ fn append_step(out: &mut Vec<u8>, m: &Model, step: Step) -> Result<(), AllocErro
     append_word(out, if step.forward { b"+" } else { b"-" })?;
     out.push(b' ')?;
     append_arc_name(out, m, step.arc.0)?;
-    out.push(b'\n')
+    out.push(b'\n')?;
+    Ok(())
 }
