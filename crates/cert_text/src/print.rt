@@ -1,7 +1,8 @@
 // The text of a certificate.
-ghost use Rattle.std.specs.Prelude.{◌≡◌, ◌+◌, ◌<◌, ◌≤◌, ◌++◌, [], ◌∷◌, length, OnOk, IfOk, codes, if◌then◌else◌};
+ghost use Rattle.std.specs.Prelude.{◌≡◌, ℕ, ◌+◌, ◌<◌, ◌≤◌, ◌++◌, [], ◌∷◌, length, OnOk, IfOk, codes, if◌then◌else◌};
 ghost use Rattle.std.specs.List.{flat_map};
 ghost use Rattle.theory.specs.declared.network.Step.{Step as NetworkStep};
+ghost use Rattle.theory.specs.Network.{«at»};
 ghost use Rattle.theory.specs.Grounded.{grounded, arc_name, node_name};
 ghost use Rattle.theory.specs.Circuit.{step};
 ghost use Rattle.theory.specs.Certificate.{Fits};
@@ -9,12 +10,11 @@ ghost use Rattle.model_text.specs.Printed.{printed_line, printed_number};
 ghost use Rattle.cert_text.specs.CertificateText.{certificate_text, texts_below, head_line, number_line, potential_line, flow_line, side_line, step_line, supply_lines, arc_lines};
 ghost use Rattle.cert_text.specs.Shown.{shown};
 
+use crate::certificate::Certificate;
 use model_text::{Model, append_number, append_word};
 use outside_io::ByteText;
 use std::alloc::{AllocError, Global};
 use theory::Step;
-
-use crate::certificate::Certificate;
 
 /// The one text of the certificate.
 pub fn print_cert(alloc: Global, m: &Model, c: &Certificate) -> Result<ByteText, AllocError>
@@ -65,65 +65,77 @@ fn append_number_line(out: &mut Vec<u8>, keyword: &[u8], number: i128) -> Result
     Ok(())
 }
 
+/// A space and the number at a position.
+fn append_number_at(out: &mut Vec<u8>, numbers: &[i64], k: u32) -> Result<(), AllocError>
+    requires { k < length numbers.now }
+    ensures { OnOk result (out.new.items ≡ out.old.items ++ 32 ∷ printed_number («at» numbers.now k)) }
+{
+    append_number(out, i128::from(numbers[k as usize]))
+}
+
 /// The potential and the supply of each model node.
 fn append_potentials(out: &mut Vec<u8>, m: &Model, u: &[i64], x: &[i64]) -> Result<(), AllocError>
-    requires potentials { length m.now.entries.nodes + 1 ≤ length u.now }
-    requires flows { length m.now.entries.nodes ≤ length x.now }
-    ensures {
-        OnOk result (out.new.items ≡ out.old.items
-            ++ texts_below (length m.now.entries.nodes) (potential_line m.now.entries u.now x.now))
-    }
+    requires potentials { length u.now ≡ length m.now.entries.nodes + 1 }
+    requires flows { length x.now ≡ length m.now.entries.nodes + length m.now.entries.arcs }
+    ensures { OnOk result (out.new.items ≡ out.old.items
+        ++ texts_below (length m.now.entries.nodes) (potential_line m.now.entries u.now x.now)) }
 {
     for i in 0..m.nodes() {
-        append_potential(out, m, i, u[i as usize + 1], x[i as usize])?;
+        append_potential(out, m, u, x, i)?;
     }
     Ok(())
 }
 
-fn append_potential(out: &mut Vec<u8>, m: &Model, i: u32, u: i64, y: i64) -> Result<(), AllocError>
-    requires { i < length m.now.entries.nodes }
-    ensures {
-        OnOk result (out.new.items ≡ out.old.items ++ printed_line (codes "node")
-            (node_name m.now.entries (i + 1) ∷ printed_number u ∷ printed_number y ∷ []))
-    }
+fn append_potential(
+    out: &mut Vec<u8>,
+    m: &Model,
+    u: &[i64],
+    x: &[i64],
+    i: u32,
+) -> Result<(), AllocError>
+    requires there { i < length m.now.entries.nodes }
+    requires potentials { length u.now ≡ length m.now.entries.nodes + 1 }
+    requires flows { length x.now ≡ length m.now.entries.nodes + length m.now.entries.arcs }
+    ensures { OnOk result (out.new.items ≡ out.old.items ++ potential_line m.now.entries u.now x.now i) }
 {
     out.extend_from_slice(b"node")?;
-    append_word(out, m.node_name(i))?;
-    append_number(out, i128::from(u))?;
-    append_number(out, i128::from(y))?;
+    append_node_name(out, m, i + 1)?;
+    append_number_at(out, u, i + 1)?;
+    append_number_at(out, x, i)?;
     out.push(b'\n')?;
     Ok(())
 }
 
 /// The flows of the ground arcs.
 fn append_supplies(out: &mut Vec<u8>, m: &Model, x: &[i64]) -> Result<(), AllocError>
-    requires { length m.now.entries.nodes ≤ length x.now }
+    requires { length x.now ≡ length m.now.entries.nodes + length m.now.entries.arcs }
     ensures { OnOk result (out.new.items ≡ out.old.items ++ supply_lines m.now.entries x.now) }
 {
     for i in 0..m.nodes() {
-        append_flow(out, m, i, x[i as usize])?;
+        append_flow(out, m, x, i)?;
     }
     Ok(())
 }
 
 /// The flows of the model's arcs.
 fn append_arcs(out: &mut Vec<u8>, m: &Model, x: &[i64]) -> Result<(), AllocError>
-    requires { length m.now.entries.nodes + length m.now.entries.arcs ≤ length x.now }
+    requires { length x.now ≡ length m.now.entries.nodes + length m.now.entries.arcs }
     ensures { OnOk result (out.new.items ≡ out.old.items ++ arc_lines m.now.entries x.now) }
 {
     let nodes = m.nodes();
     for j in 0..m.arcs() {
-        append_flow(out, m, nodes + j, x[(nodes + j) as usize])?;
+        append_flow(out, m, x, nodes + j)?;
     }
     Ok(())
 }
 
-fn append_flow(out: &mut Vec<u8>, m: &Model, j: u32, x: i64) -> Result<(), AllocError>
-    requires { j < length m.now.entries.nodes + length m.now.entries.arcs }
-    ensures { OnOk result (out.new.items ≡ out.old.items ++ printed_line (arc_name m.now.entries j) (printed_number x ∷ [])) }
+fn append_flow(out: &mut Vec<u8>, m: &Model, x: &[i64], j: u32) -> Result<(), AllocError>
+    requires there { j < length m.now.entries.nodes + length m.now.entries.arcs }
+    requires one_each { length x.now ≡ length m.now.entries.nodes + length m.now.entries.arcs }
+    ensures { OnOk result (out.new.items ≡ out.old.items ++ flow_line m.now.entries x.now j) }
 {
     append_arc_name(out, m, j)?;
-    append_number(out, i128::from(x))?;
+    append_number_at(out, x, j)?;
     out.push(b'\n')?;
     Ok(())
 }
@@ -146,25 +158,21 @@ fn append_arc_name(out: &mut Vec<u8>, m: &Model, j: u32) -> Result<(), AllocErro
 /// The nodes of the side, the ground first.
 fn append_side(out: &mut Vec<u8>, m: &Model, side: &[bool]) -> Result<(), AllocError>
     requires { length side.now ≡ length m.now.entries.nodes + 1 }
-    ensures {
-        OnOk result (out.new.items ≡ out.old.items
-            ++ texts_below (length m.now.entries.nodes + 1) (side_line m.now.entries side.now))
-    }
+    ensures { OnOk result (out.new.items ≡ out.old.items
+        ++ texts_below (length m.now.entries.nodes + 1) (side_line m.now.entries side.now)) }
 {
     for i in 0..m.nodes() + 1 {
-        append_side_line(out, m, i, side[i as usize])?;
+        append_side_line(out, m, side, i)?;
     }
     Ok(())
 }
 
-fn append_side_line(out: &mut Vec<u8>, m: &Model, i: u32, held: bool) -> Result<(), AllocError>
-    requires { i ≤ length m.now.entries.nodes }
-    ensures {
-        OnOk result (out.new.items ≡ out.old.items
-            ++ (if held then printed_line (codes "side") (node_name m.now.entries i ∷ []) else []))
-    }
+fn append_side_line(out: &mut Vec<u8>, m: &Model, side: &[bool], i: u32) -> Result<(), AllocError>
+    requires there { i ≤ length m.now.entries.nodes }
+    requires one_each { length side.now ≡ length m.now.entries.nodes + 1 }
+    ensures { OnOk result (out.new.items ≡ out.old.items ++ side_line m.now.entries side.now i) }
 {
-    if !held {
+    if !side[i as usize] {
         return Ok(());
     }
     out.extend_from_slice(b"side")?;
@@ -178,14 +186,16 @@ fn append_node_name(out: &mut Vec<u8>, m: &Model, i: u32) -> Result<(), AllocErr
     requires { i ≤ length m.now.entries.nodes }
     ensures { OnOk result (out.new.items ≡ out.old.items ++ 32 ∷ node_name m.now.entries i) }
 {
-    if i == 0 { append_word(out, b"*") } else { append_word(out, m.node_name(i - 1)) }
+    if i == 0 {
+        append_word(out, b"*")
+    } else {
+        append_word(out, m.node_name(i - 1))
+    }
 }
 
 /// The steps of the walk in order.
 fn append_walk(out: &mut Vec<u8>, m: &Model, walk: &[Step]) -> Result<(), AllocError>
-    requires {
-        (k : ℕ) → k < length walk.now → (step walk.now k).arc.0 < length m.now.entries.nodes + length m.now.entries.arcs
-    }
+    requires { (k : ℕ) → k < length walk.now → (step walk.now k).arc.0 < length m.now.entries.nodes + length m.now.entries.arcs }
     ensures { OnOk result (out.new.items ≡ out.old.items ++ flat_map (step_line m.now.entries) walk.now) }
 {
     for step in walk {
