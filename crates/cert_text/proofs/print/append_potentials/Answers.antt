@@ -1,0 +1,8 @@
+use Rattle.std.proofs.Common.{refl}
+use Rattle.cert_text.specs.CertificateText.{potential_line}
+use Rattle.cert_text.proofs.Texts.{appended}
+use Rattle.cert_text.proofs.print.append_potentials.Goals as goal
+
+pub loop-i-preserved : goal.loop-i-preserved
+loop-i-preserved c =
+    appended c.loop-i.i (potential_line c.args.m.now.entries c.args.u.now c.args.x.now) _ _ _ _ c.loop-i.invariant c.in_ok-append_potential.ensures refl

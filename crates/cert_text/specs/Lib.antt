@@ -1,0 +1,4 @@
+pub mod CertificateText
+pub mod Shown
+pub mod BadLine
+pub mod Candidate
