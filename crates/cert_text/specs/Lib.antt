@@ -1,4 +1,2 @@
 pub mod CertificateText
 pub mod Shown
-pub mod BadLine
-pub mod Candidate
