@@ -8,3 +8,4 @@ pub mod NearNumbers
 pub mod ModelText
 pub mod LineParts
 pub mod Reading
+pub mod ModelTextLaws

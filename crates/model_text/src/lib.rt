@@ -13,7 +13,10 @@ mod numbers;
 mod print;
 mod read;
 #[cfg(test)]
+mod read_tests;
+#[cfg(test)]
 mod tests;
+pub mod text_laws;
 mod words;
 
 pub use fault::FaultWord;

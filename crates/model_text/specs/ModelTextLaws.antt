@@ -1,0 +1,22 @@
+-- Laws of the model text: what reading a text gives is a function of the text.
+use Rattle.std.specs.Prelude.{◌≡◌, ℕ, ◌⊎◌, List}
+use Rattle.theory.specs.Grounded.{Entries}
+use Rattle.model_text.specs.declared.fault.FaultWord.{FaultWord}
+use Rattle.model_text.specs.ModelText.{Spells, IsFirstFault}
+
+-- a text spells at most one model
+abbrev pub OneModelLaw : Type 0
+OneModelLaw = (text : List ℕ) (m n : Entries) → Spells text m → Spells text n → m ≡ n
+
+-- a text that spells a model has no first fault
+abbrev pub SpelledOrBadLaw : Type 0
+SpelledOrBadLaw = (text : List ℕ) (m : Entries) (line : ℕ) (word : FaultWord) → Spells text m → IsFirstFault text line word → ⊥
+
+-- a text has at most one first fault
+abbrev pub OneFaultLaw : Type 0
+OneFaultLaw = (text : List ℕ) (line others : ℕ) (word other : FaultWord) → IsFirstFault text line word → IsFirstFault text others other
+    → (line ≡ others) × (word ≡ other)
+
+-- every text spells a model or has a first fault
+abbrev pub DecidedLaw : Type 0
+DecidedLaw = (text : List ℕ) → ((m : Entries) × Spells text m) ⊎ ((line : ℕ) × ((word : FaultWord) × IsFirstFault text line word))

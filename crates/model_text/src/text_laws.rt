@@ -1,0 +1,22 @@
+// Laws of the model text.
+ghost use Rattle.model_text.specs.ModelTextLaws.{OneModelLaw, SpelledOrBadLaw, OneFaultLaw, DecidedLaw};
+
+/// A text spells at most one model.
+pub fn one_model()
+    ensures { OneModelLaw }
+{}
+
+/// A text that spells a model has no first fault.
+pub fn spelled_or_bad()
+    ensures { SpelledOrBadLaw }
+{}
+
+/// A text has at most one first fault.
+pub fn one_fault()
+    ensures { OneFaultLaw }
+{}
+
+/// Every text spells a model or has a first fault.
+pub fn decided()
+    ensures { DecidedLaw }
+{}
