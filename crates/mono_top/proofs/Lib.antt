@@ -1,1 +1,3 @@
 pub mod DueLemmas
+pub mod HeadlineLemmas
+pub mod ForcedFlow

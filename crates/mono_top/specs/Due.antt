@@ -1,12 +1,13 @@
 -- What a due status says of the request, of the files, and of the counts.
 use Rattle.std.specs.Prelude.{◌≡◌, ◌≢◌, ℕ, List, Option, None}
 use Rattle.std.specs.Option.{ForSome}
+use Rattle.model_text.specs.declared.fault.FaultWord.{FaultWord}
 use Rattle.mono_top.specs.Answer.{Outside}
-use Rattle.mono_top.specs.Causes.{AsksUnbuilt}
+use Rattle.mono_top.specs.Causes.{AsksFaulty, AsksUnbuilt}
 use Rattle.mono_top.specs.Reading.{AllReadable, ReachesMissing, ReachesPastMost, ReachesTooLong}
 use Rattle.mono_top.specs.Request.{Request, files_of}
 use Rattle.mono_top.specs.declared.status.Status.{Status}
-use Rattle.mono_top.specs.declared.status.Status.TheVariants.{Usage, Missing, ReadFault, WriteFault, NoMemory, TooLong, Unbuilt}
+use Rattle.mono_top.specs.declared.status.Status.TheVariants.{Usage, ModelRefused, Missing, ReadFault, WriteFault, NoMemory, TooLong, Unbuilt}
 
 -- of the files that were to be read, in this order
 pub record IsDueOfFiles (names : List (List ℕ)) (outside : Outside) (status : Status) : Type 0 where
@@ -23,5 +24,7 @@ pub record IsDue (request : Option Request) (outside : Outside) (status : Status
   pub usage : status ≡ Usage → request ≡ None
   pub usage_always : request ≡ None → status ≡ Usage
   pub of_files : IsDueOfFiles (files_of request) outside status
+  pub refused : (line : ℕ) (word : FaultWord) → status ≡ ModelRefused line word → ForSome outside.holds (λ files. AsksFaulty files line word request)
+  pub refused_always : ForSome outside.holds (λ files. (line : ℕ) (word : FaultWord) → AsksFaulty files line word request → ¬ outside.faulted → status ≡ ModelRefused line word)
   pub unbuilt : status ≡ Unbuilt → ForSome outside.holds (λ files. AsksUnbuilt files request)
   pub unbuilt_always : ForSome outside.holds (λ files. AsksUnbuilt files request → ¬ outside.faulted → status ≡ Unbuilt)

@@ -4,6 +4,8 @@ pub mod Commands
 pub mod Due
 pub mod Ending
 pub mod Fetch
+pub mod Forced
+pub mod Headline
 pub mod Lines
 pub mod Reading
 pub mod Replies

@@ -1,5 +1,8 @@
 -- The lines that refuse.
-use Rattle.std.specs.Prelude.{List, ℕ, codes}
+use Rattle.std.specs.Prelude.{List, ℕ, pos, codes, ◌++◌}
+use Rattle.model_text.specs.declared.fault.FaultWord.{FaultWord}
+use Rattle.model_text.specs.declared.fault.FaultWord.TheVariants.{Utf8, Header, Keyword, Name, Number, Limit, Shape, Order, Twice, Unknown, Loop}
+use Rattle.model_text.specs.Printed.{printed_number}
 use Rattle.mono_top.specs.declared.lines.Place.{Place}
 use Rattle.mono_top.specs.declared.lines.Place.TheVariants.{First, Second}
 
@@ -20,3 +23,20 @@ read_fault_line Second = codes "read fault file 2\n"
 abbrev pub too_long_line : Place → List ℕ
 too_long_line First = codes "too long file 1\n"
 too_long_line Second = codes "too long file 2\n"
+
+abbrev pub word_of : FaultWord → List ℕ
+word_of Utf8 = codes "utf8"
+word_of Header = codes "header"
+word_of Keyword = codes "word"
+word_of Name = codes "name"
+word_of Number = codes "number"
+word_of Limit = codes "limit"
+word_of Shape = codes "shape"
+word_of Order = codes "order"
+word_of Twice = codes "twice"
+word_of Unknown = codes "unknown"
+word_of Loop = codes "loop"
+
+-- the first bad line of the model text, with the word for its first fault
+abbrev pub model_line : ℕ → FaultWord → List ℕ
+model_line line word = codes "model line " ++ printed_number (pos line) ++ codes ": " ++ word_of word ++ codes "\n"

@@ -1,23 +1,42 @@
 -- What `solve` answers to a model file that was read whole. A wider input changes these definitions and no clause.
-use Rattle.std.specs.Prelude.{◌≡◌, ◌⊎◌, List, ℕ, codes}
-use Rattle.mono_top.specs.Lines.{unbuilt_line}
+use Rattle.std.specs.Prelude.{◌≡◌, ◌⊎◌, ℕ, ◌<◌, List, length}
+use Rattle.theory.specs.Grounded.{Entries, IsModel, grounded}
+use Rattle.theory.specs.Certificate.{Certificate, IsValid}
+use Rattle.theory.specs.Certificate.Certificate.{optimal, cut, circuit}
+use Rattle.model_text.specs.declared.fault.FaultWord.{FaultWord}
+use Rattle.model_text.specs.Model.{node_at, arc_at}
+use Rattle.model_text.specs.ModelText.{Spells, IsFirstFault}
+use Rattle.cert_text.specs.CertificateText.{certificate_text}
+use Rattle.mono_top.specs.Lines.{unbuilt_line, model_line}
 use Rattle.mono_top.specs.declared.status.Status.{Status}
-use Rattle.mono_top.specs.declared.status.Status.TheVariants.{Done, Unbuilt}
+use Rattle.mono_top.specs.declared.status.Status.TheVariants.{Done, Cut, Circuit, ModelRefused, Unbuilt}
 
--- the model without nodes and arcs
-abbrev pub empty_model : List ℕ
-empty_model = codes "network 1\n"
+-- every curve is a single point: the models that have an answer so far
+pub record AreAllPoints (m : Entries) : Type 0 where
+  pub supplies : (i : ℕ) → i < length m.nodes → length (node_at m i).supply.items ≡ 1
+  pub curves : (j : ℕ) → j < length m.arcs → length (arc_at m j).curve.items ≡ 1
 
--- its only certificate
-abbrev pub empty_certificate : List ℕ
-empty_certificate = codes "certificate 1 optimal\ncost 0\nvalue 0\n"
+-- the kind of a certificate as a status
+abbrev pub status_of : Certificate → Status
+status_of (optimal x u cost value) = Done
+status_of (cut side capacity) = Cut
+status_of (circuit x walk span) = Circuit
 
--- the texts that have an answer so far
-abbrev pub IsBuilt : List ℕ → Type 0
-IsBuilt model = model ≡ empty_model
+-- the text of a certificate that is valid for the model
+pub record IsCertified (m : Entries) (status : Status) (text : List ℕ) : Type 0 where
+  pub is_model : IsModel m
+  pub certificate : Certificate
+  pub valid : IsValid (grounded m) certificate
+  pub kind : status ≡ status_of certificate
+  pub is : text ≡ certificate_text m certificate
 
--- the text of a certificate of the model, or the line that says that there is no answer to it yet
+abbrev pub SolvesModel : Entries → Status → List ℕ → Type 0
+SolvesModel m status text =
+    AreAllPoints m × IsCertified m status text
+    ⊎ (¬ AreAllPoints m) × (status ≡ Unbuilt) × (text ≡ unbuilt_line)
+
+-- the line for the first fault of the text, or the answer to the model that it spells
 abbrev pub Solves : List ℕ → Status → List ℕ → Type 0
-Solves model status text =
-    IsBuilt model × (status ≡ Done) × (text ≡ empty_certificate)
-    ⊎ (¬ IsBuilt model) × (status ≡ Unbuilt) × (text ≡ unbuilt_line)
+Solves bytes status text =
+    ((line : ℕ) × (word : FaultWord) × IsFirstFault bytes line word × (status ≡ ModelRefused line word) × (text ≡ model_line line word))
+    ⊎ ((m : Entries) × Spells bytes m × SolvesModel m status text)

@@ -14,7 +14,6 @@ use crate::status::Status;
 use outside_io::Shelf;
 use std::alloc::{AllocError, Global};
 
-#[tactic(auto, using(crate::proofs::DueLemmas::due))]
 pub(crate) fn reply_to<S: Shelf>(
     alloc: Global,
     words: &[String],

@@ -4,6 +4,7 @@
 mod answer;
 mod command;
 mod fetch;
+mod forced;
 mod lines;
 mod reply;
 mod solve;

@@ -1,6 +1,11 @@
 // The lines that refuse.
-ghost use Rattle.std.specs.Prelude.{◌≡◌};
-ghost use Rattle.mono_top.specs.Lines.{usage_line, unbuilt_line, missing_line, read_fault_line, too_long_line};
+ghost use Rattle.std.specs.Prelude.{◌≡◌, IfOk};
+ghost use Rattle.mono_top.specs.Lines.{usage_line, unbuilt_line, missing_line, read_fault_line, too_long_line, word_of, model_line};
+
+use itoa::Buffer;
+use model_text::FaultWord;
+use outside_io::ByteText;
+use std::alloc::{AllocError, Global};
 
 /// Which of the files among a command's words a line is about.
 #[derive(Clone, Copy)]
@@ -46,4 +51,34 @@ pub(crate) fn too_long(place: Place) -> &'static [u8]
         Place::First => b"too long file 1\n",
         Place::Second => b"too long file 2\n",
     }
+}
+
+/// The word that is printed for a fault.
+fn word_of(word: FaultWord) -> &'static [u8]
+    ensures { result.now ≡ word_of word }
+{
+    match word {
+        FaultWord::Utf8 => b"utf8",
+        FaultWord::Header => b"header",
+        FaultWord::Keyword => b"word",
+        FaultWord::Name => b"name",
+        FaultWord::Number => b"number",
+        FaultWord::Limit => b"limit",
+        FaultWord::Shape => b"shape",
+        FaultWord::Order => b"order",
+        FaultWord::Twice => b"twice",
+        FaultWord::Unknown => b"unknown",
+        FaultWord::Loop => b"loop",
+    }
+}
+
+pub(crate) fn model_line(alloc: Global, line: u32, word: FaultWord) -> Result<ByteText, AllocError>
+    ensures { IfOk result (λ text. text ≡ model_line line word) }
+{
+    let mut out = Vec::from_slice(alloc, b"model line ")?;
+    out.extend_from_slice(Buffer::new().format(line).as_bytes())?;
+    out.extend_from_slice(b": ")?;
+    out.extend_from_slice(word_of(word))?;
+    out.extend_from_slice(b"\n")?;
+    Ok(ByteText::of_vec(out))
 }

@@ -1,17 +1,23 @@
 // The command `solve MODEL`.
-ghost use Rattle.std.specs.Prelude.{◌≡◌, IfOk, Some};
+ghost use Rattle.std.specs.Prelude.{◌≡◌, ◌≤◌, ◌^◌, length, IfOk, Some};
 ghost use Rattle.outside_io.specs.Counts.{Rose, Counts};
+ghost use Rattle.cert_text.specs.Shown.{shown};
 ghost use Rattle.mono_top.specs.Answer.{outside_of};
 ghost use Rattle.mono_top.specs.Fetch.{text_of};
+ghost use Rattle.mono_top.specs.Reading.{file_most};
 ghost use Rattle.mono_top.specs.Replies.{Replies};
 ghost use Rattle.mono_top.specs.Request.{solve as solve_request};
-ghost use Rattle.mono_top.specs.Solves.{Solves};
+ghost use Rattle.mono_top.specs.Solves.{Solves, SolvesModel, status_of};
 
 use crate::fetch::{Fetched, fetch};
+use crate::forced::{are_all_points, forced_certificate};
 use crate::lines::{self, Place};
 use crate::reply::{Reply, Text};
 use crate::status::Status;
-use outside_io::{ByteText, Shelf};
+use cert_text::{Certificate, print_cert};
+use ground_net::ground;
+use model_text::{Model, ModelError, read_model};
+use outside_io::Shelf;
 use std::alloc::{AllocError, Global};
 
 pub(crate) fn solve<S: Shelf>(
@@ -26,21 +32,49 @@ pub(crate) fn solve<S: Shelf>(
     ensures faults { Counts (S.faults shelf.old) (S.faults shelf.new) }
 {
     match fetch(alloc, shelf, Place::First, model)? {
-        Fetched::Bytes(text) => Ok(certificate(alloc, text.as_slice())?),
+        Fetched::Bytes(text) => Ok(answer_text(alloc, text.as_slice())?),
         Fetched::Refused(reply) => Ok(reply),
     }
 }
 
 /// Answers a model text.
-fn certificate(alloc: Global, model: &[u8]) -> Result<Reply, AllocError>
-    ensures { IfOk result (λ reply. Solves model.now reply.status (text_of reply.text)) }
+fn answer_text(alloc: Global, text: &[u8]) -> Result<Reply, AllocError>
+    requires { length text.now ≤ file_most }
+    ensures { IfOk result (λ reply. Solves text.now reply.status (text_of reply.text)) }
 {
-    if model != b"network 1\n".as_slice() {
+    match read_model(alloc, text) {
+        Ok(model) => Ok(answer_model(alloc, &model)?),
+        Err(ModelError::Fault { line, word }) => Ok(Reply {
+            status: Status::ModelRefused { line, word },
+            text: Text::Made(lines::model_line(alloc, line, word)?),
+        }),
+        Err(ModelError::NoMemory) => Err(AllocError),
+    }
+}
+
+/// Answers a model: by the certificate of its forced flow, where every curve is a single point.
+fn answer_model(alloc: Global, model: &Model) -> Result<Reply, AllocError>
+    ensures { IfOk result (λ reply. SolvesModel model.now.entries reply.status (text_of reply.text)) }
+{
+    if !are_all_points(model) {
         return Ok(Reply::refusal(Status::Unbuilt, lines::unbuilt()));
     }
-    let text = b"certificate 1 optimal\ncost 0\nvalue 0\n".to_vec(alloc)?;
+    let network = ground(alloc, model)?;
+    let certificate = forced_certificate(alloc, &network)?;
+    let text = print_cert(alloc, model, &certificate)?;
     Ok(Reply {
-        status: Status::Done,
-        text: Text::Made(ByteText::of_vec(text)),
+        status: status_of(&certificate),
+        text: Text::Made(text),
     })
+}
+
+/// The status for the kind of the certificate.
+fn status_of(certificate: &Certificate) -> Status
+    ensures { result ≡ status_of (shown certificate.now) }
+{
+    match certificate {
+        Certificate::Optimal { .. } => Status::Done,
+        Certificate::Cut { .. } => Status::Cut,
+        Certificate::Circuit { .. } => Status::Circuit,
+    }
 }

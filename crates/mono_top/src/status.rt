@@ -2,10 +2,16 @@
 ghost use Rattle.std.specs.Prelude.{◌≡◌};
 ghost use Rattle.mono_top.specs.Status.{code_of};
 
+use model_text::FaultWord;
+
 #[derive(Clone, Copy, PartialEq, Eq, Debug)]
 pub enum Status {
     Done,
+    Cut,
+    Circuit,
     Usage,
+    /// The first bad line of the model text, counted from 1, and the word for its first fault.
+    ModelRefused { line: u32, word: FaultWord },
     Missing,
     ReadFault,
     WriteFault,
@@ -21,7 +27,10 @@ impl Status {
     {
         match self {
             Status::Done => 0,
+            Status::Cut => 1,
+            Status::Circuit => 2,
             Status::Usage => 4,
+            Status::ModelRefused { .. } => 5,
             Status::Missing => 6,
             Status::ReadFault => 7,
             Status::WriteFault => 8,

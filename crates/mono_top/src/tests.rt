@@ -15,6 +15,17 @@ const CERTIFICATE: &[u8] = b"certificate 1 optimal\ncost 0\nvalue 0\n";
 
 const USAGE: &[u8] = b"usage: monotropic COMMAND WORDS\n";
 
+/// The forced flow is conserved; with the bases it costs 7 - 2.
+const CONSERVED: &[u8] = b"network 1\r\nnode s 4 base 7 # supply\nnode t -4\narc a s t +04 base -2";
+
+const CONSERVED_CERTIFICATE: &[u8] =
+    b"certificate 1 optimal\ncost 5\nvalue 5\nnode s 0 4\nnode t 0 -4\narc a 4\n";
+
+/// The arc takes 3 of the 5 that the supply brings.
+const TOO_LITTLE: &[u8] = b"network 1\nnode s 5\nnode t -5\narc a s t 3\n";
+
+const ORDINARY: &[u8] = b"network 1\nnode s 5\nnode t -5\narc a s t 0 2 4 5 10\n";
+
 /// One call: its words, over a source that holds the file `a` alone, and what comes of it.
 #[derive(Clone, Copy)]
 struct Row {
@@ -66,7 +77,7 @@ fn outcome<L: Ledger>(
     file.resize(length, b'#')?;
     let mut shelf = MemoryShelf::of(alloc, row.source_fails, 4096)?;
     shelf.put("a", file.as_slice())?;
-    let mut out = MemorySink::of(alloc, row.sink_fails, 3, 64)?;
+    let mut out = MemorySink::of(alloc, row.sink_fails, 3, 256)?;
     let mut steps = Steps::<L>::open(blank);
     let status = run(alloc, words.as_slice(), &mut shelf, &mut out, &mut steps);
     Ok((status, out))
@@ -76,7 +87,6 @@ fn outcome<L: Ledger>(
 fn rows(rt: HostRuntime) -> Result<(), Fail> {
     let rows = [
         plain(&["solve", "a"], EMPTY, 0, CERTIFICATE),
-        plain(&["solve", "a"], b"network 1", 13, b"unbuilt\n"),
         plain(&["solve", "b"], EMPTY, 6, b"missing file 1\n"),
         plain(&["solve"], EMPTY, 4, USAGE),
         plain(&["solve", "a", "b"], EMPTY, 4, USAGE),
@@ -84,7 +94,7 @@ fn rows(rt: HostRuntime) -> Result<(), Fail> {
         plain(&[], EMPTY, 4, USAGE),
         Row {
             length: FILE_MOST,
-            ..plain(&["solve", "a"], EMPTY, 13, b"unbuilt\n")
+            ..plain(&["solve", "a"], EMPTY, 0, CERTIFICATE)
         },
         Row {
             length: FILE_MOST + 1,
@@ -98,6 +108,27 @@ fn rows(rt: HostRuntime) -> Result<(), Fail> {
             sink_fails: &[1],
             ..plain(&["solve", "a"], EMPTY, 8, b"cer")
         },
+        plain(&["solve", "a"], CONSERVED, 0, CONSERVED_CERTIFICATE),
+        plain(
+            &["solve", "a"],
+            TOO_LITTLE,
+            1,
+            b"certificate 1 cut\ncapacity -2\nside s\n",
+        ),
+        plain(
+            &["solve", "a"],
+            b"network 1\nnode s 4",
+            1,
+            b"certificate 1 cut\ncapacity -4\nside s\n",
+        ),
+        plain(&["solve", "a"], ORDINARY, 13, b"unbuilt\n"),
+        plain(&["solve", "a"], b"", 5, b"model line 1: header\n"),
+        plain(
+            &["solve", "a"],
+            b"network 1\nnode s\nnode t\narc a s t 0 2\n",
+            5,
+            b"model line 4: shape\n",
+        ),
     ];
     for row in &rows {
         let (status, out) = outcome::<Brand>(rt.alloc(), row, Blank::new(1))?;

@@ -1,9 +1,12 @@
 // The top call.
-ghost use Rattle.std.specs.Prelude.{◌≡◌, ◌≢◌, ◌⊎◌, None, IsSome};
+ghost use Rattle.std.specs.Prelude.{◌≡◌, ◌≢◌, ◌⊎◌, ℕ, None, IsSome};
 ghost use Rattle.std.specs.Option.{ForSome};
+ghost use Rattle.theory.specs.Grounded.{Entries};
+ghost use Rattle.model_text.specs.declared.fault.FaultWord.{FaultWord as Fault};
 ghost use Rattle.outside_io.specs.Counts.{Rose, Counts};
 ghost use Rattle.mono_top.specs.Answer.{Answers, outside_of};
-ghost use Rattle.mono_top.specs.Causes.{AsksUnbuilt, IsAnswerable, GoesThrough};
+ghost use Rattle.mono_top.specs.Causes.{AsksFaulty, AsksSolvable, AsksUnbuilt, IsAnswerable, GoesThrough};
+ghost use Rattle.mono_top.specs.Headline.{Concludes};
 ghost use Rattle.mono_top.specs.Ending.{WritesDue, WritesPart};
 ghost use Rattle.mono_top.specs.Reading.{ReachesMissing, ReachesPastMost, ReachesTooLong, HoldsFirst};
 ghost use Rattle.mono_top.specs.Request.{asked, files_of};
@@ -30,6 +33,11 @@ pub fn run<S: Shelf, K: Sink, L: Ledger>(
         (Rose (S.misses shelf.old) (S.misses shelf.new)) (Rose (S.faults shelf.old) (S.faults shelf.new)))) (K.written out.old) (K.written out.new) (K.sure out.old) }
     ensures nothing { result ≡ Status.NoMemory → out.new ≡ out.old }
 
+    // The certificate of a model: an optimum over all fractions, or why there is none.
+    ensures headline { result ≢ Status.ReadFault → result ≢ Status.WriteFault → result ≢ Status.NoMemory
+        → ForSome (S.holds shelf.old) (λ files. (m : Entries) → AsksSolvable files m (asked words.now)
+        → Concludes m result (K.written out.old) (K.written out.new)) }
+
     // When each refusal comes.
     ensures usage { result ≡ Status.Usage → asked words.now ≡ None }
     ensures usage_always { asked words.now ≡ None → (result ≡ Status.Usage) ⊎ (result ≡ Status.WriteFault) }
@@ -41,6 +49,11 @@ pub fn run<S: Shelf, K: Sink, L: Ledger>(
     ensures too_long_always { ForSome (S.holds shelf.old) (λ files. ReachesTooLong files (files_of (asked words.now))
         → ¬ Rose (S.faults shelf.old) (S.faults shelf.new)
         → (result ≡ Status.TooLong) ⊎ (result ≡ Status.NoMemory) ⊎ (result ≡ Status.WriteFault)) }
+    ensures refused { (line : ℕ) (word : Fault) → result ≡ Status.ModelRefused line word
+        → ForSome (S.holds shelf.old) (λ files. AsksFaulty files line word (asked words.now)) }
+    ensures refused_always { ForSome (S.holds shelf.old) (λ files. (line : ℕ) (word : Fault) → AsksFaulty files line word (asked words.now)
+        → ¬ Rose (S.faults shelf.old) (S.faults shelf.new)
+        → (result ≡ Status.ModelRefused line word) ⊎ (result ≡ Status.NoMemory) ⊎ (result ≡ Status.WriteFault)) }
     ensures unbuilt { result ≡ Status.Unbuilt → ForSome (S.holds shelf.old) (λ files. AsksUnbuilt files (asked words.now)) }
     ensures unbuilt_always { ForSome (S.holds shelf.old) (λ files. AsksUnbuilt files (asked words.now)
         → ¬ Rose (S.faults shelf.old) (S.faults shelf.new)

@@ -1,0 +1,20 @@
+use Rattle.std.proofs.Common.{rules}
+use Rattle.outside_io.specs.Counts.{Rose}
+use Rattle.mono_top.specs.Answer.{Answers, outside_of}
+use Rattle.mono_top.specs.Fetch.{text_of}
+use Rattle.mono_top.specs.Request.{asked}
+use Rattle.mono_top.proofs.DueLemmas.{due}
+use Rattle.mono_top.proofs.answer.reply_to.Goals as goal
+
+pub returns-in_ok-solve-in-Some-Solve-clause-due : goal.returns-in_ok-solve-in-Some-Solve-clause-due
+returns-in_ok-solve-in-Some-Solve-clause-due g c =
+    let answers : Answers (asked c.args.words.now)
+    (outside_of (g.S.Shelf.holds c.args.shelf.now) (g.S.Shelf.rest c.solve.new.shelf)
+    (Rose (g.S.Shelf.misses c.args.shelf.now) (g.S.Shelf.misses c.solve.new.shelf))
+    (Rose (g.S.Shelf.faults c.args.shelf.now) (g.S.Shelf.faults c.solve.new.shelf)))
+    c.in_ok-solve-in-Some-Solve.field-0.status (text_of c.in_ok-solve-in-Some-Solve.field-0.text) = search rules in
+    due (asked c.args.words.now)
+    (outside_of (g.S.Shelf.holds c.args.shelf.now) (g.S.Shelf.rest c.solve.new.shelf)
+    (Rose (g.S.Shelf.misses c.args.shelf.now) (g.S.Shelf.misses c.solve.new.shelf))
+    (Rose (g.S.Shelf.faults c.args.shelf.now) (g.S.Shelf.faults c.solve.new.shelf)))
+    c.in_ok-solve-in-Some-Solve.field-0.status (text_of c.in_ok-solve-in-Some-Solve.field-0.text) answers

@@ -1,0 +1,18 @@
+-- What a call to `solve` concludes of a model: it writes the text of exactly one certificate, valid, of the one right kind.
+-- What the certificate says is a claim over all fractions: an optimum, or that there is no feasible flow, or that no plan
+-- is bounded.
+use Rattle.std.specs.Prelude.{◌≡◌, ◌↔◌, ℕ, List, Option}
+use Rattle.theory.specs.Grounded.{Entries, grounded}
+use Rattle.theory.specs.Best.{FlowIsRefused}
+use Rattle.theory.specs.CertificateLaws.{Says}
+use Rattle.outside_io.specs.Sink.{Grew}
+use Rattle.mono_top.specs.Solves.{IsCertified}
+use Rattle.mono_top.specs.declared.status.Status.{Status}
+use Rattle.mono_top.specs.declared.status.Status.TheVariants.{Cut}
+
+pub record Concludes (m : Entries) (status : Status) (old new : Option (List ℕ)) : Type 0 where
+  pub text : List ℕ
+  pub certified : IsCertified m status text
+  pub written : Grew old new text
+  pub says : Says (grounded m) certified.certificate
+  pub flow_refused : (status ≡ Cut) ↔ FlowIsRefused (grounded m)
