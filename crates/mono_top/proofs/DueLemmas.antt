@@ -4,7 +4,7 @@
 use Rattle.std.proofs.Common.{◌≡◌, ◌≢◌, ℕ, ◌≤◌, List, [], ◌∷◌, length, subst, Option, Some, None, inl, inr, rules, arith, length-append}
 use Rattle.std.specs.Option.{ForSome}
 use Rattle.mono_top.specs.Answer.{Outside, Answers, ReadsThen, RefusesFile}
-use Rattle.mono_top.specs.Causes.{AsksFaulty, AsksUnbuilt, AsksSolvable, GoesThrough}
+use Rattle.mono_top.specs.Causes.{AsksSolvable, GoesThrough}
 use Rattle.mono_top.specs.Due.{IsDue, IsDueOfFiles}
 use Rattle.mono_top.specs.Request.{Request, solve}
 use Rattle.mono_top.specs.Reading.{file_most}
@@ -19,7 +19,7 @@ use Rattle.model_text.proofs.TextLaws.{one_model, spelled_or_bad, one_fault}
 use Rattle.mono_top.specs.declared.lines.Place.{Place}
 use Rattle.mono_top.specs.declared.lines.Place.TheVariants.{First}
 use Rattle.mono_top.specs.declared.status.Status.{Status}
-use Rattle.mono_top.specs.declared.status.Status.TheVariants.{Done, Cut, Circuit, Usage, ModelRefused, Missing, ReadFault, TooLong, NoMemory, Unbuilt}
+use Rattle.mono_top.specs.declared.status.Status.TheVariants.{Usage, ModelRefused, Missing, ReadFault, TooLong, NoMemory, Unbuilt}
 
 -- a command's own status: nothing was refused, and there was memory
 abbrev pub IsOwn : Status → Type 0

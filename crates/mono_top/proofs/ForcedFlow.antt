@@ -17,10 +17,10 @@ use Rattle.theory.specs.CurveList.{IsCurveList, Listing, item, first, last}
 use Rattle.theory.specs.Cost.{cost}
 use Rattle.theory.specs.ConjugateCost.{conjugate_cost}
 use Rattle.theory.specs.OnCurve.{IsOnCurve}
-use Rattle.theory.specs.Network.{Network, IsNetwork, «at», tail, head, curve, over_arcs}
-use Rattle.theory.specs.Conserved.{IsConserved, outflow, inflow, divergence, tension}
+use Rattle.theory.specs.Network.{Network, IsNetwork, «at», tail, head, curve}
+use Rattle.theory.specs.Conserved.{IsConserved, divergence, tension}
 use Rattle.theory.specs.Totals.{total_cost, total_value}
-use Rattle.theory.specs.Cut.{holds, cut_end, CutCounts, cut_sum, leaves, enters}
+use Rattle.theory.specs.Cut.{holds, cut_end, CutCounts, cut_sum}
 use Rattle.mono_top.specs.Forced.{IsPoint, IsForced, forced, IsForcedBelow, IsForcedFlow, IsBaseSum, total_base}
 use Rattle.net_incidence.specs.Graph.{Graph, network, bare}
 use Rattle.theory.specs.Limits.{number_most, base_most}
@@ -31,7 +31,7 @@ use Rattle.theory.proofs.GroundedLaw.{by_arc, curve-ground, curve-model}
 use Rattle.mono_top.specs.Solves.{AreAllPoints}
 use Rattle.theory.proofs.Bounds.{within_sum, sum_below-within}
 use Rattle.theory.proofs.Rings.{rings}
-use Rattle.theory.proofs.SumsBelow.{sum_below-same, sum_below-zero, sum_below-mul, sum_below-term, sum_below-sub}
+use Rattle.theory.proofs.SumsBelow.{sum_below-same, sum_below-mul, sum_below-term, sum_below-sub}
 use Rattle.theory.proofs.SumLaw.{divergence-total}
 
 -- ---- one point
@@ -225,11 +225,11 @@ at_rest n k = elim (cases_lt k n) [
 pub valid_cut : (net : Network) (x : List ℤ) (i : ℕ) → IsNetwork net → length net.arcs ≤ 12000 → IsForced net → IsForcedFlow net x
     → i < net.nodes → divergence net («at» x) i <ℤ pos 0
     → IsValid net (cut (set (replicate net.nodes false) i true) (divergence net («at» x) i))
-valid_cut net x i good few one flow there lacking =
+valid_cut net x i good few one flow there overfull =
     let of_one = cut_of_one net (set (replicate net.nodes false) i true) («at» x) i good one flow.follows (only_one net.nodes i there) in
     record {
       fits = (length-set (replicate net.nodes false) i true ∙ length-replicate net.nodes false, divergence_within net x i flow few);
-      shows = record { counts = of_one.counts; negative = rw of_one.is lacking };
+      shows = record { counts = of_one.counts; negative = rw of_one.is overfull };
       right = sym of_one.is;
     }
 

@@ -1,10 +1,10 @@
 -- From a certified text to what it claims. A valid certificate says what its kind says; and where flow is refused no
 -- other kind than the cut is valid, since the others show a feasible flow.
-use Rattle.std.proofs.Common.{◌≡◌, ◌≢◌, ◌↔◌, ℕ, ◌≤◌, List, Option, arith}
+use Rattle.std.proofs.Common.{◌≡◌, ◌↔◌, ℕ, ◌≤◌, List, Option, arith}
 use Rattle.theory.specs.Network.{Network}
 use Rattle.theory.specs.Grounded.{Entries, grounded}
 use Rattle.theory.specs.Best.{FlowIsRefused}
-use Rattle.theory.specs.Certificate.{Certificate, IsValid}
+use Rattle.theory.specs.Certificate.{Certificate}
 use Rattle.theory.specs.Certificate.Certificate.{optimal, cut, circuit}
 use Rattle.theory.specs.CertificateLaws.{Says}
 use Rattle.theory.proofs.Certificates.{certificate_says}
@@ -13,7 +13,7 @@ use Rattle.outside_io.specs.Sink.{Grew}
 use Rattle.mono_top.specs.Solves.{IsCertified, status_of}
 use Rattle.mono_top.specs.Headline.{Concludes}
 use Rattle.mono_top.specs.declared.status.Status.{Status}
-use Rattle.mono_top.specs.declared.status.Status.TheVariants.{Done, Cut, Circuit}
+use Rattle.mono_top.specs.declared.status.Status.TheVariants.{Cut}
 
 one_is_one : 1 ≤ 1
 one_is_one = omega arith

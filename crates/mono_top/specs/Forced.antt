@@ -5,7 +5,7 @@ use Rattle.theory.specs.declared.ext.Ext.TheVariants.{At}
 use Rattle.theory.specs.Sums.{sum_below}
 use Rattle.theory.specs.Ends.{whole}
 use Rattle.theory.specs.Limits.{base_most}
-use Rattle.theory.specs.CurveList.{Listing, first}
+use Rattle.theory.specs.CurveList.{first}
 use Rattle.theory.specs.Network.{Network, «at», curve, over_arcs}
 use Rattle.theory.specs.Certificate.{IsWithin, flow_most}
 

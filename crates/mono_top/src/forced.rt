@@ -17,19 +17,20 @@ use net_incidence::{ArcId, Flows, Marks, Net, NodeId};
 use std::alloc::{AllocError, Global};
 use theory::pricing::whole_of;
 
-/// The forced flow is optimal where it is conserved, with the potential 0; else a node that lacks inflow is a cut.
+/// The forced flow is optimal where it is conserved, with the potential 0; else a node that more flow enters than leaves
+/// is a cut.
 pub(crate) fn forced_certificate(alloc: Global, g: &Grounded) -> Result<Certificate, AllocError>
     requires { IsForced g.now.network }
     ensures { IfOk result (λ c. IsValid g.now.network (shown c)) }
 {
     let flows = points(alloc, g)?;
-    match first_lacking(g.net(), flows.as_slice()) {
+    match first_overfull(g.net(), flows.as_slice()) {
         Some(node) => Ok(cut_of(alloc, g, flows.as_slice(), node)?),
         None => Ok(pair_at_rest(alloc, g, flows)?),
     }
 }
 
-/// The node alone: more leaves it than enters it, whatever the potential.
+/// The node alone: what must enter it is more than what can leave it.
 fn cut_of(
     alloc: Global,
     g: &Grounded,
@@ -39,7 +40,7 @@ fn cut_of(
     requires forced { IsForced g.now.network }
     requires flow { IsForcedFlow g.now.network flows.now }
     requires there { node.0 < g.now.network.nodes }
-    requires lacking { divergence g.now.network («at» flows.now) node.0 <ℤ pos 0 }
+    requires overfull { divergence g.now.network («at» flows.now) node.0 <ℤ pos 0 }
     ensures { IfOk result (λ c. IsValid g.now.network (shown c)) }
 {
     let side = only(alloc, g.net().nodes(), node)?;
@@ -93,11 +94,11 @@ fn points(alloc: Global, g: &Grounded) -> Result<Vec<i64>, AllocError>
     Ok(flows)
 }
 
-/// The first node that more flow leaves by than enters it by less than nothing: its divergence is below 0.
-fn first_lacking(net: &Net, flows: &[i64]) -> Option<NodeId>
+/// The first node that more flow enters than leaves.
+fn first_overfull(net: &Net, flows: &[i64]) -> Option<NodeId>
     requires { length flows.now ≡ length net.now.arcs }
     ensures found { IfSome result (λ node. node.0 < net.now.nodes) }
-    ensures lacking { IfSome result (λ node. divergence (bare net.now) («at» flows.now) node.0 <ℤ pos 0) }
+    ensures overfull { IfSome result (λ node. divergence (bare net.now) («at» flows.now) node.0 <ℤ pos 0) }
     ensures none { IfNone result ((i : ℕ) → i < net.now.nodes → pos 0 ≤ℤ divergence (bare net.now) («at» flows.now) i) }
 {
     for i in 0..net.nodes() as u32 {

@@ -1,8 +1,3 @@
-use Rattle.std.proofs.Common.{◌≡◌, ◌*◌}
-use Rattle.theory.specs.Sums.{sum_below}
-use Rattle.theory.specs.Network.{curve}
-use Rattle.theory.specs.Certificate.{IsWithin}
-use Rattle.theory.specs.Limits.{base_most}
 use Rattle.mono_top.specs.Forced.{IsBaseSum}
 use Rattle.mono_top.proofs.forced.base_sum.Given as goal
 

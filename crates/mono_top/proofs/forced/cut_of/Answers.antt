@@ -1,4 +1,4 @@
-use Rattle.std.proofs.Common.{◌≡◌, ℕ, ap, ◌∙◌, rules, arith, SFits, to_z-of_z, set, replicate, true, false}
+use Rattle.std.proofs.Common.{◌≡◌, ℕ, ap, ◌∙◌, rules, SFits, to_z-of_z, set, replicate, true, false}
 use mir.Syntax.{w128}
 use Rattle.theory.specs.Network.{Network, «at»}
 use Rattle.theory.specs.Conserved.{divergence}
@@ -15,4 +15,4 @@ returns c =
     let side : c.of_vec.result ≡ set (replicate c.args.g.now.network.nodes false) c.args.node.0 true =
     c.of_vec.ensures ∙ c.in_ok-side.ensures ∙ ap (λ (n : ℕ). set (replicate n false) c.args.node.0 true) count in
     rw (to_z-of_z fits, capacity, side)
-    (valid_cut net c.args.flows.now c.args.node.0 c.args.g.now.good.is_network c.args.g.now.good.few_arcs c.requires.forced c.requires.flow c.requires.there c.requires.lacking)
+    (valid_cut net c.args.flows.now c.args.node.0 c.args.g.now.good.is_network c.args.g.now.good.few_arcs c.requires.forced c.requires.flow c.requires.there c.requires.overfull)

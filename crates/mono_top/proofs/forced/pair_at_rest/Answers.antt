@@ -1,4 +1,4 @@
-use Rattle.std.proofs.Common.{◌≡◌, ℕ, ap, ◌∙◌, rules, arith, SFits, to_z-of_z, replicate, pos}
+use Rattle.std.proofs.Common.{◌≡◌, ℕ, ap, ◌∙◌, rules, SFits, to_z-of_z, replicate, pos}
 use mir.Syntax.{w128}
 use Rattle.theory.specs.Network.{Network}
 use Rattle.mono_top.proofs.ForcedFlow.{valid_pair}

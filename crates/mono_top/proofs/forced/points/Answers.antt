@@ -1,4 +1,4 @@
-use Rattle.std.proofs.Common.{◌≡◌, ◌+◌, ap, ◌∙◌, rules, arith, SFits, w64, to_z, of_z, to_z-of_z, ℤ, List, [], ◌∷◌, ◌++◌}
+use Rattle.std.proofs.Common.{◌+◌, ap, ◌∙◌, rules, arith, SFits, w64, to_z-of_z, [], ◌∷◌, ◌++◌}
 use Rattle.theory.specs.Ends.{whole}
 use Rattle.theory.specs.CurveList.{Listing, item}
 use Rattle.theory.specs.Certificate.{IsWithin}
