@@ -25,7 +25,7 @@ split-none p (b ∷ text) none = by (p b) refl none (split-none p text)
     by true is past others = absurd (omega arith)
     by false is past others = slice_split-cons_no p b text is ∙ ap (onto_first b) (others (omega arith))
 
-end-more : (piece : List ℕ) (pieces : List (List ℕ)) → 0 < length pieces → without_empty_end (piece ∷ pieces) ≡ piece ∷ without_empty_end pieces
+pub end-more : (piece : List ℕ) (pieces : List (List ℕ)) → 0 < length pieces → without_empty_end (piece ∷ pieces) ≡ piece ∷ without_empty_end pieces
 end-more piece [] some = absurd (omega arith)
 end-more [] (next ∷ pieces) some = refl
 end-more (b ∷ piece) (next ∷ pieces) some = refl

@@ -19,6 +19,6 @@ none-at p [] none k d below = absurd (omega arith)
 none-at p (x ∷ xs) none zero d below = (neither (p x) (list_any p xs) none).0
 none-at p (x ∷ xs) none (suc k) d below = none-at p xs (neither (p x) (list_any p xs) none).1 k d (omega arith)
 
-pub none-by : {X : Type 0} (p : X → Bool) (xs : List X) → ((k : ℕ) (d : X) → k < length xs → p (get_or xs k d) ≡ false) → list_any p xs ≡ false
-none-by p [] each = refl
-none-by p (x ∷ xs) each = rw (each 0 x (omega arith)) (none-by p xs (λ k d below. each (suc k) d (omega arith)))
+pub none-by : {X : Type 0} (p : X → Bool) (xs : List X) (d : X) → ((k : ℕ) → k < length xs → p (get_or xs k d) ≡ false) → list_any p xs ≡ false
+none-by p [] d each = refl
+none-by p (x ∷ xs) d each = rw (each 0 (omega arith)) (none-by p xs d (λ k below. each (suc k) (omega arith)))

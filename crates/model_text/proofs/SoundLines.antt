@@ -57,11 +57,11 @@ passes_together m words none =
 
 -- ---- names
 
-both : (a b : Bool) → (a && b) ≡ true → (a ≡ true) × (b ≡ true)
+pub both : (a b : Bool) → (a && b) ≡ true → (a ≡ true) × (b ≡ true)
 both true b all = (refl, all)
 both false b all = cc
 
-all-at : {X : Type 0} (p : X → Bool) (xs : List X) → list_all p xs ≡ true → (k : ℕ) (d : X) → k < length xs → p (get_or xs k d) ≡ true
+pub all-at : {X : Type 0} (p : X → Bool) (xs : List X) → list_all p xs ≡ true → (k : ℕ) (d : X) → k < length xs → p (get_or xs k d) ≡ true
 all-at p [] all k d below = absurd (omega arith)
 all-at p (x ∷ xs) all zero d below = (both (p x) (list_all p xs) all).0
 all-at p (x ∷ xs) all (suc k) d below = all-at p xs (both (p x) (list_all p xs) all).1 k d (omega arith)
