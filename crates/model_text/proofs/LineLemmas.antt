@@ -75,8 +75,8 @@ parts words d kind wanted count rest names after list base some is rest-is wante
     let rests : rest ≡ drop 1 words = rest-is ∙ take_rest words 1 in
     let wants : wanted ≡ names_wanted (texts words) = wanted-is ∙ ap (λ b. if b then 1 else 3) (sym kinds.0) in
     let bodies : texts after ≡ body (texts words) =
-        ap texts (after-is ∙ drop_min wanted rest ∙ ap (drop wanted) rests) ∙ drop-texts wanted (drop 1 words)
-        ∙ ap (drop wanted) (drop-texts 1 words) ∙ ap (λ n. drop n (drop 1 (texts words))) wants in
+    ap texts (after-is ∙ drop_min wanted rest ∙ ap (drop wanted) rests) ∙ drop-texts wanted (drop 1 words)
+    ∙ ap (drop wanted) (drop-texts 1 words) ∙ ap (λ n. drop n (drop 1 (texts words))) wants in
     let counts : count ≡ list_count (texts words) = count-is ∙ ap (position_or_len is_base_word) bodies in
     record {
       node = kinds.0;
@@ -85,7 +85,8 @@ parts words d kind wanted count rest names after list base some is rest-is wante
           ap texts (names-is ∙ take_min wanted rest ∙ ap (take wanted) rests) ∙ take-texts wanted (drop 1 words)
           ∙ ap (take wanted) (drop-texts 1 words) ∙ ap (λ n. take n (drop 1 (texts words))) wants;
       list = ap texts list-is ∙ take-texts count after ∙ rw (counts, bodies) refl;
-      base = ap texts base-is ∙ drop-texts count after ∙ rw (counts, bodies) refl }
+      base = ap texts base-is ∙ drop-texts count after ∙ rw (counts, bodies) refl;
+    }
 
 -- ---- the tests of a line, on its parts
 

@@ -49,20 +49,23 @@ list-plain (e ∷ items) within = one_more (item-plain e (front-within e items w
 pub base-plain : (base : ℤ) → IsWithin number_most base → ArePlain (printed_base base)
 base-plain base within =
     elim (int_eq base (pos 0)) as (λ b. ArePlain (if b then [] else (codes "base" ∷ printed_number base ∷ []))) [
-      true ↦ no_more
-      | false ↦ one_more (record { plain = refl; some = omega arith }) (one_more (number-plain base within) no_more) ]
+      | true ↦ no_more
+      | false ↦ one_more (record { plain = refl; some = omega arith }) (one_more (number-plain base within) no_more)
+    ]
 
 pub base-is-one : (base : ℤ) → IsWithin number_most base → is_no_base (printed_base base) ≡ false
 base-is-one base within =
     elim (int_eq base (pos 0)) as (λ b. is_no_base (if b then [] else (codes "base" ∷ printed_number base ∷ [])) ≡ false) [
-      true ↦ refl
-      | false ↦ rw (number-read base within) refl ]
+      | true ↦ refl
+      | false ↦ rw (number-read base within) refl
+    ]
 
 pub base-read : (base : ℤ) → IsWithin number_most base → unwrap_or (number_of (word_at (printed_base base) 1)) (pos 0) ≡ base
 base-read base within =
     elim (int_eq base (pos 0)) as (λ b. int_eq base (pos 0) ≡ b → unwrap_or (number_of (word_at (if b then [] else (codes "base" ∷ printed_number base ∷ [])) 1)) (pos 0) ≡ base) [
-      true ↦ λ zero_base. sym ((Decides-int_eq base (pos 0)).0 zero_base)
-      | false ↦ λ other. rw (number-read base within) refl ] refl
+      | true ↦ λ zero_base. sym ((Decides-int_eq base (pos 0)).0 zero_base)
+      | false ↦ λ other. rw (number-read base within) refl
+    ] refl
 
 -- ---- where the list ends
 
@@ -134,12 +137,12 @@ or-none-by a b first second = rw (first, second) refl
 pub list-placed : (items : List Ext) → IsCurveList items → is_misplaced items ≡ false
 list-placed items curve =
     or-none-by (list_any is_minus_inf (drop 1 items)) (list_any is_plus_inf (take (length items - 1) items))
-        (none-by is_minus_inf (drop 1 items) MinusInf (λ k below.
-            let inside : 1 + k < length items = omega (arith, length-drop 1 items) in
-            rw (get_or_after_one items k MinusInf) (not-minus items curve k inside)))
-        (none-by is_plus_inf (take (length items - 1) items) MinusInf (λ k below.
-            let inside : k + 1 < length items = omega (arith, length-take (length items - 1) items) in
-            rw (get_or-take (length items - 1) items k MinusInf (omega arith)) (not-plus items curve k inside)))
+    (none-by is_minus_inf (drop 1 items) MinusInf (λ k below.
+    let inside : 1 + k < length items = omega (arith, length-drop 1 items) in
+    rw (get_or_after_one items k MinusInf) (not-minus items curve k inside)))
+    (none-by is_plus_inf (take (length items - 1) items) MinusInf (λ k below.
+    let inside : k + 1 < length items = omega (arith, length-take (length items - 1) items) in
+    rw (get_or-take (length items - 1) items k MinusInf (omega arith)) (not-plus items curve k inside)))
 
 pub list-single : (items : List Ext) → IsCurveList items → (length items == 1 && not (is_finite (item items 0))) ≡ false
 list-single items curve = by (length items == 1) refl
@@ -152,8 +155,8 @@ pub list-rises : (items : List Ext) → IsCurveList items → has_fall items ≡
 unfolding has_fall
 list-rises items curve =
     none-by (λ pair. not (is_below pair.0 pair.1)) (zip items (drop 2 items)) (MinusInf, MinusInf) (λ k below.
-        let inside : k + 2 < length items = omega (arith, length-zip items (drop 2 items), length-drop 2 items) in
-        let pair : get_or (zip items (drop 2 items)) k (MinusInf, MinusInf) ≡ (item items k, item items (k + 2)) =
-            get_or-zip items (drop 2 items) k (MinusInf, MinusInf) (omega arith) (omega (arith, length-drop 2 items))
-            ∙ ap (λ e. (item items k, e)) (get_or-drop 2 items k MinusInf ∙ ap (item items) (omega arith)) in
-        rw pair (ap not (curve.rises k inside)))
+    let inside : k + 2 < length items = omega (arith, length-zip items (drop 2 items), length-drop 2 items) in
+    let pair : get_or (zip items (drop 2 items)) k (MinusInf, MinusInf) ≡ (item items k, item items (k + 2)) =
+    get_or-zip items (drop 2 items) k (MinusInf, MinusInf) (omega arith) (omega (arith, length-drop 2 items))
+    ∙ ap (λ e. (item items k, e)) (get_or-drop 2 items k MinusInf ∙ ap (item items) (omega arith)) in
+    rw pair (ap not (curve.rises k inside)))

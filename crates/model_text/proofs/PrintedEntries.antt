@@ -61,7 +61,7 @@ module _ (words : List (List ℕ)) (curve : Listing) (limits : IsWithinLimits cu
   unfolding is_beyond
   in-limits =
       let short : nat_lt LIST_MOST (length (list_words words)) ≡ false =
-          rw (list-is, length-map curve.items printed_end) (let most = limits.short in grind (arith, nat_tests)) in
+      rw (list-is, length-map curve.items printed_end) (let most = limits.short in grind (arith, nat_tests)) in
       rw (short, items-are, base-are, within-small curve.items limits.items) (base-small curve.base limits.base)
 
   well-shaped : is_misshapen words ≡ false
@@ -89,8 +89,15 @@ module _ (m : Entries) (node : NodeEntry) (limits : IsWithinLimits node.supply) 
   unfolding is_node_line is_arc_line lacks_names line_names is_full is_twice is_unknown is_loop
   node-passes named free room =
       let roomy : nat_le NODES_MOST (length m.nodes) ≡ false = grind (arith, nat_tests) in
-      rw (named, numbers-there (node_words node) node.supply limits is_list node-body, in-limits (node_words node) node.supply limits is_list node-body,
-          roomy, well-shaped (node_words node) node.supply limits is_list node-body, ordered (node_words node) node.supply limits is_list node-body, free) refl
+      rw (
+        named,
+        numbers-there (node_words node) node.supply limits is_list node-body,
+        in-limits (node_words node) node.supply limits is_list node-body,
+        roomy,
+        well-shaped (node_words node) node.supply limits is_list node-body,
+        ordered (node_words node) node.supply limits is_list node-body,
+        free,
+      ) refl
 
 -- ---- an arc
 
@@ -110,5 +117,17 @@ module _ (m : Entries) (name tail head : List ℕ) (from to : ℕ) (curve : List
   arc-passes named tail_named head_named free room apart =
       let roomy : nat_le ARCS_MOST (length m.arcs) ≡ false = grind (arith, nat_tests) in
       let words = arc_words name tail head curve in
-      rw (named, tail_named, head_named, numbers-there words curve limits is_list arc-body, in-limits words curve limits is_list arc-body, roomy,
-          well-shaped words curve limits is_list arc-body, ordered words curve limits is_list arc-body, free, tail_at, head_at, apart) refl
+      rw (
+        named,
+        tail_named,
+        head_named,
+        numbers-there words curve limits is_list arc-body,
+        in-limits words curve limits is_list arc-body,
+        roomy,
+        well-shaped words curve limits is_list arc-body,
+        ordered words curve limits is_list arc-body,
+        free,
+        tail_at,
+        head_at,
+        apart,
+      ) refl

@@ -33,9 +33,9 @@ use Rattle.model_text.proofs.ReadLemmas.{begins, goes_on, header_adds, some-word
 fresh : (names : List (List ℕ)) (name : List ℕ) → ((k : ℕ) → k < length names → get_or names k [] ≢ name) → place_of names name ≡ None
 fresh names name differ =
     let past : position_or_len (bytes_eq name) names ≡ length names =
-        position_or_len_is (bytes_eq name) names (length names) [] (omega arith)
-            (λ k below. false-unless (bytes_eq name (get_or names k [])) (λ same. differ k below (sym ((bytes_eq-Decides name (get_or names k [])).0 same))))
-            (λ less. absurd (omega arith)) in
+    position_or_len_is (bytes_eq name) names (length names) [] (omega arith)
+    (λ k below. false-unless (bytes_eq name (get_or names k [])) (λ same. differ k below (sym ((bytes_eq-Decides name (get_or names k [])).0 same))))
+    (λ less. absurd (omega arith)) in
     let outside : nat_lt (position_or_len (bytes_eq name) names) (length names) ≡ false = grind (arith, nat_tests) in
     rw outside refl
 
@@ -43,9 +43,9 @@ fresh names name differ =
 stands-at : (names : List (List ℕ)) (i : ℕ) → i < length names → ((k : ℕ) → k < i → get_or names k [] ≢ get_or names i []) → place_of names (get_or names i []) ≡ Some i
 stands-at names i below differ =
     let at : position_or_len (bytes_eq (get_or names i [])) names ≡ i =
-        position_or_len_is (bytes_eq (get_or names i [])) names i [] (omega arith)
-            (λ k before. false-unless (bytes_eq (get_or names i []) (get_or names k [])) (λ same. differ k before (sym ((bytes_eq-Decides (get_or names i []) (get_or names k [])).0 same))))
-            (λ less. (bytes_eq-Decides (get_or names i []) (get_or names i [])).1 refl) in
+    position_or_len_is (bytes_eq (get_or names i [])) names i [] (omega arith)
+    (λ k before. false-unless (bytes_eq (get_or names i []) (get_or names k [])) (λ same. differ k before (sym ((bytes_eq-Decides (get_or names i []) (get_or names k [])).0 same))))
+    (λ less. (bytes_eq-Decides (get_or names i []) (get_or names i [])).1 refl) in
     let inside : nat_lt (position_or_len (bytes_eq (get_or names i [])) names) (length names) ≡ true = grind (arith, nat_tests) in
     rw (inside, at) refl
 
@@ -100,9 +100,9 @@ module _ (m : Entries) (formed : IsWellFormed m) where
       → ArePlain ((get_or m.arcs k d).name ∷ (node_at m (get_or m.arcs k d).from).name ∷ (node_at m (get_or m.arcs k d).to).name ∷ printed_curve (get_or m.arcs k d).curve)
   arc-plain k d below =
       one_more (name-plain _ (arc-named k d below))
-          (one_more (name-plain _ (node-named (get_or m.arcs k d).from no_node (formed.model.tails k d below)))
-              (one_more (name-plain _ (node-named (get_or m.arcs k d).to no_node (formed.model.heads k d below)))
-                  (curve-plain _ (formed.curves k d below))))
+      (one_more (name-plain _ (node-named (get_or m.arcs k d).from no_node (formed.model.tails k d below)))
+      (one_more (name-plain _ (node-named (get_or m.arcs k d).to no_node (formed.model.heads k d below)))
+      (curve-plain _ (formed.curves k d below))))
 
   node-clean : (k : ℕ) → k < length m.nodes → list_all is_clean (node-line (node_at m k)) ≡ true
   unfolding node-line
@@ -117,46 +117,46 @@ module _ (m : Entries) (formed : IsWellFormed m) where
   lines-are =
       line-more (codes "network 1") (flat_map printed_node m.nodes ++ flat_map (printed_arc m) m.arcs) refl
       ∙ ap (λ l. codes "network 1" ∷ l)
-          (lines-more node-line m.nodes (flat_map (printed_arc m) m.arcs) (λ k d below. line-clean (codes "node") refl (node-plain k d below))
-          ∙ ap (λ l. map node-line m.nodes ++ l)
-              (ap text_lines (sym (append-nil (flat_map (printed_arc m) m.arcs)))
-              ∙ lines-more arc-line m.arcs [] (λ k d below. line-clean (codes "arc") refl (arc-plain k d below))
-              ∙ ap (λ l. map arc-line m.arcs ++ l) no-lines ∙ append-nil (map arc-line m.arcs)))
+      (lines-more node-line m.nodes (flat_map (printed_arc m) m.arcs) (λ k d below. line-clean (codes "node") refl (node-plain k d below))
+      ∙ ap (λ l. map node-line m.nodes ++ l)
+      (ap text_lines (sym (append-nil (flat_map (printed_arc m) m.arcs)))
+      ∙ lines-more arc-line m.arcs [] (λ k d below. line-clean (codes "arc") refl (arc-plain k d below))
+      ∙ ap (λ l. map arc-line m.arcs ++ l) no-lines ∙ append-nil (map arc-line m.arcs)))
 
   -- ---- each name at its place
 
   names-differ : (i k : ℕ) → i < k → k < length m.nodes → (node_at m i).name ≢ (node_at m k).name
   names-differ i k less below same =
       formed.nodes_named.differ i k [] less (omega (arith, length-map m.nodes (λ (node : NodeEntry). node.name)))
-          (get_or-map (λ (node : NodeEntry). node.name) m.nodes i no_node [] (omega arith) ∙ same ∙ sym (get_or-map (λ (node : NodeEntry). node.name) m.nodes k no_node [] below))
+      (get_or-map (λ (node : NodeEntry). node.name) m.nodes i no_node [] (omega arith) ∙ same ∙ sym (get_or-map (λ (node : NodeEntry). node.name) m.nodes k no_node [] below))
 
   node-stands : (i : ℕ) → i < length m.nodes → place_of (node_names m) (node_at m i).name ≡ Some i
   node-stands i below =
       let at = get_or-map (λ (node : NodeEntry). node.name) m.nodes i no_node [] below in
       ap (place_of (node_names m)) (sym at)
       ∙ stands-at (node_names m) i (omega (arith, length-map m.nodes (λ (node : NodeEntry). node.name)))
-          (λ k before. formed.nodes_named.differ k i [] before (omega (arith, length-map m.nodes (λ (node : NodeEntry). node.name))))
+      (λ k before. formed.nodes_named.differ k i [] before (omega (arith, length-map m.nodes (λ (node : NodeEntry). node.name))))
 
   -- the names of the first nodes, of the first arcs, lack the next one
   node-fresh : (i : ℕ) → i < length m.nodes → place_of (map (λ (node : NodeEntry). node.name) (take i m.nodes)) (node_at m i).name ≡ None
   node-fresh i below =
       fresh (map (λ (node : NodeEntry). node.name) (take i m.nodes)) (node_at m i).name (λ k inside.
-          let before : k < i = omega (arith, length-map (take i m.nodes) (λ (node : NodeEntry). node.name), length-take i m.nodes) in
-          let at : get_or (map (λ (node : NodeEntry). node.name) (take i m.nodes)) k [] ≡ (node_at m k).name =
-              get_or-map (λ (node : NodeEntry). node.name) (take i m.nodes) k no_node [] (omega (arith, length-take i m.nodes))
-              ∙ ap (λ node. node.name) (get_or-take i m.nodes k no_node before) in
-          λ same. names-differ k i before below (sym at ∙ same))
+      let before : k < i = omega (arith, length-map (take i m.nodes) (λ (node : NodeEntry). node.name), length-take i m.nodes) in
+      let at : get_or (map (λ (node : NodeEntry). node.name) (take i m.nodes)) k [] ≡ (node_at m k).name =
+      get_or-map (λ (node : NodeEntry). node.name) (take i m.nodes) k no_node [] (omega (arith, length-take i m.nodes))
+      ∙ ap (λ node. node.name) (get_or-take i m.nodes k no_node before) in
+      λ same. names-differ k i before below (sym at ∙ same))
 
   arc-fresh : (j : ℕ) → j < length m.arcs → place_of (map (λ (arc : ArcEntry). arc.name) (take j m.arcs)) (arc_at m j).name ≡ None
   arc-fresh j below =
       fresh (map (λ (arc : ArcEntry). arc.name) (take j m.arcs)) (arc_at m j).name (λ k inside.
-          let before : k < j = omega (arith, length-map (take j m.arcs) (λ (arc : ArcEntry). arc.name), length-take j m.arcs) in
-          let at : get_or (map (λ (arc : ArcEntry). arc.name) (take j m.arcs)) k [] ≡ (arc_at m k).name =
-              get_or-map (λ (arc : ArcEntry). arc.name) (take j m.arcs) k no_arc [] (omega (arith, length-take j m.arcs))
-              ∙ ap (λ arc. arc.name) (get_or-take j m.arcs k no_arc before) in
-          λ same. formed.arcs_named.differ k j [] before (omega (arith, length-map m.arcs (λ (arc : ArcEntry). arc.name)))
-              (get_or-map (λ (arc : ArcEntry). arc.name) m.arcs k no_arc [] (omega arith) ∙ sym at ∙ same
-              ∙ sym (get_or-map (λ (arc : ArcEntry). arc.name) m.arcs j no_arc [] below)))
+      let before : k < j = omega (arith, length-map (take j m.arcs) (λ (arc : ArcEntry). arc.name), length-take j m.arcs) in
+      let at : get_or (map (λ (arc : ArcEntry). arc.name) (take j m.arcs)) k [] ≡ (arc_at m k).name =
+      get_or-map (λ (arc : ArcEntry). arc.name) (take j m.arcs) k no_arc [] (omega (arith, length-take j m.arcs))
+      ∙ ap (λ arc. arc.name) (get_or-take j m.arcs k no_arc before) in
+      λ same. formed.arcs_named.differ k j [] before (omega (arith, length-map m.arcs (λ (arc : ArcEntry). arc.name)))
+      (get_or-map (λ (arc : ArcEntry). arc.name) m.arcs k no_arc [] (omega arith) ∙ sym at ∙ same
+      ∙ sym (get_or-map (λ (arc : ArcEntry). arc.name) m.arcs j no_arc [] below)))
 
   -- ---- the line at each place
 
@@ -172,17 +172,17 @@ module _ (m : Entries) (formed : IsWellFormed m) where
   node-there i below =
       drop_more others i [] (omega (arith, others-count))
       ∙ ap (λ line. line ∷ drop (i + 1) others)
-          (get_or-append (map node-line m.nodes) (map arc-line m.arcs) [] i (omega (arith, length-map m.nodes node-line))
-          ∙ get_or-map node-line m.nodes i no_node [] below)
+      (get_or-append (map node-line m.nodes) (map arc-line m.arcs) [] i (omega (arith, length-map m.nodes node-line))
+      ∙ get_or-map node-line m.nodes i no_node [] below)
 
   arc-there : (j : ℕ) → j < length m.arcs → drop (suc (length m.nodes + j)) lines ≡ arc-line (arc_at m j) ∷ drop (length m.nodes + j + 1) others
   unfolding lines others
   arc-there j below =
       drop_more others (length m.nodes + j) [] (omega (arith, others-count))
       ∙ ap (λ line. line ∷ drop (length m.nodes + j + 1) others)
-          (ap (λ n. get_or others (n + j) []) (sym (length-map m.nodes node-line))
-          ∙ get_or-append-add (map node-line m.nodes) (map arc-line m.arcs) j []
-          ∙ get_or-map arc-line m.arcs j no_arc [] below)
+      (ap (λ n. get_or others (n + j) []) (sym (length-map m.nodes node-line))
+      ∙ get_or-append-add (map node-line m.nodes) (map arc-line m.arcs) j []
+      ∙ get_or-map arc-line m.arcs j no_arc [] below)
 
   node-line-words : (i : ℕ) → i < length m.nodes → line_words (node-line (node_at m i)) ≡ node_words (node_at m i)
   unfolding node-line
@@ -206,7 +206,7 @@ module _ (m : Entries) (formed : IsWellFormed m) where
       let below : i < length m.nodes = omega arith in
       let count : suc (suc i) ≡ suc i + 1 = omega arith in
       let more : take (suc i) m.nodes ≡ take i m.nodes ++ node_at m i ∷ [] =
-          ap (λ n. take n m.nodes) (sym (add-one i)) ∙ (take_at_read m.nodes i no_node below).1 in
+      ap (λ n. take n m.nodes) (sym (add-one i)) ∙ (take_at_read m.nodes i no_node below).1 in
       ap (λ n. entries_of (take n lines)) count
       ∙ entries-after lines (suc i) (node-line (node_at m i)) (drop (i + 1) others) (node-there i below)
       ∙ ap (λ made. with_line made (line_words (node-line (node_at m i)))) (nodes-made i (omega arith))
@@ -223,14 +223,14 @@ module _ (m : Entries) (formed : IsWellFormed m) where
       let below : j < length m.arcs = omega arith in
       let count : suc (length m.nodes + suc j) ≡ suc (length m.nodes + j) + 1 = omega arith in
       let more : take (suc j) m.arcs ≡ take j m.arcs ++ arc_at m j ∷ [] =
-          ap (λ n. take n m.arcs) (sym (add-one j)) ∙ (take_at_read m.arcs j no_arc below).1 in
+      ap (λ n. take n m.arcs) (sym (add-one j)) ∙ (take_at_read m.arcs j no_arc below).1 in
       ap (λ n. entries_of (take n lines)) count
       ∙ entries-after lines (suc (length m.nodes + j)) (arc-line (arc_at m j)) (drop (length m.nodes + j + 1) others) (arc-there j below)
       ∙ ap (λ before. with_line before (line_words (arc-line (arc_at m j)))) (arcs-made j (omega arith))
       ∙ ap (with_line (record { nodes = m.nodes; arcs = take j m.arcs })) (arc-line-words j below)
       ∙ arc-adds (record { nodes = m.nodes; arcs = take j m.arcs }) (arc_at m j).name (node_at m (arc_at m j).from).name (node_at m (arc_at m j).to).name
-          (arc_at m j).from (arc_at m j).to (arc_at m j).curve (formed.curves j no_arc below) (formed.model.curves j no_arc below)
-          (node-stands (arc_at m j).from (formed.model.tails j no_arc below)) (node-stands (arc_at m j).to (formed.model.heads j no_arc below))
+      (arc_at m j).from (arc_at m j).to (arc_at m j).curve (formed.curves j no_arc below) (formed.model.curves j no_arc below)
+      (node-stands (arc_at m j).from (formed.model.tails j no_arc below)) (node-stands (arc_at m j).to (formed.model.heads j no_arc below))
       ∙ ap (λ arcs. record { nodes = m.nodes; arcs = arcs }) (sym more)
 
   -- ---- no line has a fault
@@ -252,17 +252,17 @@ module _ (m : Entries) (formed : IsWellFormed m) where
       let before = nodes-made i (omega arith) in
       fault-here lines (suc i) (node-line (node_at m i)) (drop (i + 1) others) (node-there i below)
       ∙ rw (begun-before i, before)
-          (goes_on true (record { nodes = take i m.nodes; arcs = [] }) (node-line (node_at m i)) (clean-text (node-line (node_at m i)) (node-clean i below))
-              (some-words (node-line (node_at m i)) (rw words (omega arith))) refl
-          ∙ ap (λ l. first_fault (entry_tests (record { nodes = take i m.nodes; arcs = [] }) l)) words
-          ∙ node-passes (record { nodes = take i m.nodes; arcs = [] }) (node_at m i) (formed.supplies i no_node below) (formed.model.supplies i no_node below)
-              (node-named i no_node below) (node-fresh i below) (omega (arith, length-take i m.nodes, formed.nodes_most)))
+      (goes_on true (record { nodes = take i m.nodes; arcs = [] }) (node-line (node_at m i)) (clean-text (node-line (node_at m i)) (node-clean i below))
+      (some-words (node-line (node_at m i)) (rw words (omega arith))) refl
+      ∙ ap (λ l. first_fault (entry_tests (record { nodes = take i m.nodes; arcs = [] }) l)) words
+      ∙ node-passes (record { nodes = take i m.nodes; arcs = [] }) (node_at m i) (formed.supplies i no_node below) (formed.model.supplies i no_node below)
+      (node-named i no_node below) (node-fresh i below) (omega (arith, length-take i m.nodes, formed.nodes_most)))
 
   ends-apart : (j : ℕ) → j < length m.arcs → bytes_eq (node_at m (arc_at m j).from).name (node_at m (arc_at m j).to).name ≡ false
   ends-apart j below =
       false-unless (bytes_eq (node_at m (arc_at m j).from).name (node_at m (arc_at m j).to).name) (λ same.
-          let equal = (bytes_eq-Decides (node_at m (arc_at m j).from).name (node_at m (arc_at m j).to).name).0 same in
-          by equal (formed.model.no_loops j no_arc below))
+      let equal = (bytes_eq-Decides (node_at m (arc_at m j).from).name (node_at m (arc_at m j).to).name).0 same in
+      by equal (formed.model.no_loops j no_arc below))
     where
       by : (node_at m (arc_at m j).from).name ≡ (node_at m (arc_at m j).to).name → ((arc_at m j).from ≡ (arc_at m j).to → ⊥) → ⊥
       by equal apart =
@@ -278,14 +278,14 @@ module _ (m : Entries) (formed : IsWellFormed m) where
       let head = node-stands (arc_at m j).to (formed.model.heads j no_arc below) in
       fault-here lines (suc (length m.nodes + j)) (arc-line (arc_at m j)) (drop (length m.nodes + j + 1) others) (arc-there j below)
       ∙ rw (begun-before (length m.nodes + j), before)
-          (goes_on true (record { nodes = m.nodes; arcs = take j m.arcs }) (arc-line (arc_at m j)) (clean-text (arc-line (arc_at m j)) (arc-clean j below))
-              (some-words (arc-line (arc_at m j)) (rw words (omega arith))) refl
-          ∙ ap (λ l. first_fault (entry_tests (record { nodes = m.nodes; arcs = take j m.arcs }) l)) words
-          ∙ arc-passes (record { nodes = m.nodes; arcs = take j m.arcs }) (arc_at m j).name (node_at m (arc_at m j).from).name (node_at m (arc_at m j).to).name
-              (arc_at m j).from (arc_at m j).to (arc_at m j).curve (formed.curves j no_arc below) (formed.model.curves j no_arc below) tail head
-              (arc-named j no_arc below) (node-named (arc_at m j).from no_node (formed.model.tails j no_arc below))
-              (node-named (arc_at m j).to no_node (formed.model.heads j no_arc below)) (arc-fresh j below) (omega (arith, length-take j m.arcs, formed.arcs_most))
-              (ends-apart j below))
+      (goes_on true (record { nodes = m.nodes; arcs = take j m.arcs }) (arc-line (arc_at m j)) (clean-text (arc-line (arc_at m j)) (arc-clean j below))
+      (some-words (arc-line (arc_at m j)) (rw words (omega arith))) refl
+      ∙ ap (λ l. first_fault (entry_tests (record { nodes = m.nodes; arcs = take j m.arcs }) l)) words
+      ∙ arc-passes (record { nodes = m.nodes; arcs = take j m.arcs }) (arc_at m j).name (node_at m (arc_at m j).from).name (node_at m (arc_at m j).to).name
+      (arc_at m j).from (arc_at m j).to (arc_at m j).curve (formed.curves j no_arc below) (formed.model.curves j no_arc below) tail head
+      (arc-named j no_arc below) (node-named (arc_at m j).from no_node (formed.model.tails j no_arc below))
+      (node-named (arc_at m j).to no_node (formed.model.heads j no_arc below)) (arc-fresh j below) (omega (arith, length-take j m.arcs, formed.arcs_most))
+      (ends-apart j below))
 
   lines-count : length lines ≡ suc (length m.nodes + length m.arcs)
   unfolding lines others
@@ -316,4 +316,5 @@ pub printed : PrintedLaw
 printed m formed = record {
   begun = ap (list_any has_words) (lines-are m formed) ∙ has-words m formed;
   no_fault = rw (lines-are m formed) (no-fault m formed);
-  is = sym (all-made m formed) ∙ ap entries_of (sym (lines-are m formed)) }
+  is = sym (all-made m formed) ∙ ap entries_of (sym (lines-are m formed));
+}

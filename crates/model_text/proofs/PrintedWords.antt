@@ -108,7 +108,7 @@ item-read PlusInf within = refl
 item-read (At (pos n)) within =
     let is = decimal-is n (omega (arith, small-by (pos n) within)) in
     rw (other-word n (decimal n) is 45 (codes "inf") refl, other-word n (decimal n) is 43 (codes "inf") refl, other-word n (decimal n) is 105 (codes "nf") refl)
-        (ap (option_map (λ z. At z)) (number-read (pos n) within))
+    (ap (option_map (λ z. At z)) (number-read (pos n) within))
 item-read (At (negsuc n)) within =
     let is = decimal-is (suc n) (omega (arith, small-by (negsuc n) within)) in
     rw (other-word (suc n) (decimal (suc n)) is 105 (codes "nf") refl) (ap (option_map (λ z. At z)) (number-read (negsuc n) within))

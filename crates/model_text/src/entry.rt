@@ -13,11 +13,7 @@ use std::alloc::Global;
 use theory::Ext;
 
 /// Adds what the line is to the model, where it passes the tests.
-pub(crate) fn read_entry(
-    alloc: Global,
-    model: &mut Model,
-    words: &[&[u8]],
-) -> Result<(), Refusal>
+pub(crate) fn read_entry(alloc: Global, model: &mut Model, words: &[&[u8]]) -> Result<(), Refusal>
     ensures tests { Passes (entry_tests model.old.entries (texts words.now)) result }
     ensures added { OnOk result (model.new.entries ≡ with_line model.old.entries (texts words.now)) }
 {

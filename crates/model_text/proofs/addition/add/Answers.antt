@@ -50,4 +50,4 @@ returns-in_ok-add_arc-in-Arc c =
     let tail : place_of (node_names c.args.model.now.entries) (word_at words 2) ≡ Some c.unwrap-from.result = search rules in
     let head : place_of (node_names c.args.model.now.entries) (word_at words 3) ≡ Some c.unwrap-to.result = search rules in
     c.in_ok-add_arc-in-Arc.ensures ∙ rw (c.in_ok-name.ensures, c.in_ok-curve.ensures.listing)
-        (sym (adds_arc c.args.model.now.entries words c.unwrap-from.result c.unwrap-to.result node arc tail head))
+    (sym (adds_arc c.args.model.now.entries words c.unwrap-from.result c.unwrap-to.result node arc tail head))

@@ -16,7 +16,7 @@ unreachable-requires c =
     let based : c.from.result ≡ (line_listing words).base = base_is ∙ sym (ap (λ l. l.base) (listing-is words)) in
     let is : IsFault c.items_or-items.result.now c.from.result c.in-Err.fault = search rules in
     c.in_default.not-NoMemory (only_memory (line_listing words).items (line_listing words).base (sound-line words c.requires.limit c.requires.shape c.requires.order)
-        (sound-base words c.requires.limit c.requires.shape c.requires.order) c.in-Err.fault (rw (shown, based) at is))
+    (sound-base words c.requires.limit c.requires.shape c.requires.order) c.in-Err.fault (rw (shown, based) at is))
 
 pub returns-in-Ok-clause-listing : goal.returns-in-Ok-clause-listing
 returns-in-Ok-clause-listing c =

@@ -12,4 +12,5 @@ loop-digit-preserved c =
       same_test = sym (rw is_digit at (digits-drop at digits (omega arith))) ∙ c.loop-digit.invariant.same_test;
       same_value =
           rw (c.min-value.ensures, c.from.ensures)
-              (sym (near-step c.loop-digit.value at digits (omega arith) is_digit) ∙ c.loop-digit.invariant.same_value) }
+          (sym (near-step c.loop-digit.value at digits (omega arith) is_digit) ∙ c.loop-digit.invariant.same_value);
+    }
