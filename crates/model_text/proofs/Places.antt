@@ -1,5 +1,5 @@
 -- Positions by a test, and names by their positions. Crates that turn names into positions cite `found`, `absent` and `own_place`.
-use Rattle.std.proofs.Common.{◌≡◌, ◌≢◌, ℕ, suc, ◌+◌, ◌<◌, ◌≤◌, Bool, true, false, not, cond, nat_lt, ltb, List, [], ◌∷◌, length, get_or, map, position, bytes_eq, Option, None, Some, refl, sym, ap, ◌∙◌, arith}
+use Rattle.std.proofs.Common.{◌≡◌, ◌≢◌, ℕ, suc, ◌+◌, ◌<◌, ◌≤◌, Bool, true, false, not, cond, nat_lt, List, [], ◌∷◌, length, get_or, map, position, bytes_eq, None, Some, refl, sym, ap, ◌∙◌, arith}
 use Rattle.std.specs.List.{position_or_len, AllPairs}
 use Rattle.std.specs.Cmp.Lexicographic.{bytes_decides}
 use Rattle.std.proofs.lemmas.Bool.{false≢true, lt-ltb}

@@ -77,7 +77,8 @@ impl Model {
         requires short { length supply.listing.items ≤ LIST_MOST }
         requires base { IsWithin number_most supply.listing.base }
         ensures position { IfOk result (λ i. i ≡ length self.old.entries.nodes) }
-        ensures added { OnOk result (self.new.entries ≡ with_node self.old.entries name.bytes supply.listing) }
+        ensures added { OnOk result (self.new.entries
+            ≡ with_node self.old.entries name.bytes supply.listing) }
         ensures refused { MatchOption (node_fault self.old.entries name.bytes)
             (IsOkUnless result AddFault.NoMemory) (λ fault. result ≡ Err fault) }
         ensures err { OnErr result (self.new.entries ≡ self.old.entries) }
@@ -102,7 +103,8 @@ impl Model {
         requires short { length curve.listing.items ≤ LIST_MOST }
         requires base { IsWithin number_most curve.listing.base }
         ensures position { IfOk result (λ j. j ≡ length self.old.entries.arcs) }
-        ensures added { OnOk result (self.new.entries ≡ with_arc self.old.entries name.bytes from to curve.listing) }
+        ensures added { OnOk result (self.new.entries
+            ≡ with_arc self.old.entries name.bytes from to curve.listing) }
         ensures refused { MatchOption (arc_fault self.old.entries name.bytes from to)
             (IsOkUnless result AddFault.NoMemory) (λ fault. result ≡ Err fault) }
         ensures err { OnErr result (self.new.entries ≡ self.old.entries) }

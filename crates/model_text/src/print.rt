@@ -42,7 +42,8 @@ pub fn append_end(out: &mut Vec<u8>, end: Ext) -> Result<(), AllocError>
 
 /// Appends the items of the list, each after a space.
 pub fn append_list<C: Listed>(out: &mut Vec<u8>, curve: &C) -> Result<(), AllocError>
-    ensures ok { OnOk result (out.new.items ≡ out.old.items ++ spaced (printed_list (C.listing curve.now).items)) }
+    ensures ok { OnOk result (out.new.items
+        ≡ out.old.items ++ spaced (printed_list (C.listing curve.now).items)) }
     ensures err { OnErr result (out.new.items ≡ out.old.items) }
 {
     let before = out.len();
@@ -80,7 +81,8 @@ fn append_base(out: &mut Vec<u8>, base: i128) -> Result<(), AllocError>
 
 // Appends the curve of a node or an arc, which ends the line.
 fn append_curve(out: &mut Vec<u8>, curve: &Curve) -> Result<(), AllocError>
-    ensures { OnOk result (out.new.items ≡ out.old.items ++ spaced (printed_curve curve.now.listing) ++ 10 ∷ []) }
+    ensures { OnOk result (out.new.items
+        ≡ out.old.items ++ spaced (printed_curve curve.now.listing) ++ 10 ∷ []) }
 {
     append_list(out, curve)?;
     append_base(out, curve.base())?;
@@ -89,7 +91,8 @@ fn append_curve(out: &mut Vec<u8>, curve: &Curve) -> Result<(), AllocError>
 
 fn append_node(out: &mut Vec<u8>, m: &Model, i: u32) -> Result<(), AllocError>
     requires { i < length m.now.entries.nodes }
-    ensures { OnOk result (out.new.items ≡ out.old.items ++ printed_node (node_at m.now.entries i)) }
+    ensures { OnOk result (out.new.items
+        ≡ out.old.items ++ printed_node (node_at m.now.entries i)) }
 {
     out.extend_from_slice(b"node")?;
     append_word(out, m.node_name(i))?;
@@ -98,7 +101,8 @@ fn append_node(out: &mut Vec<u8>, m: &Model, i: u32) -> Result<(), AllocError>
 
 fn append_arc(out: &mut Vec<u8>, m: &Model, j: u32) -> Result<(), AllocError>
     requires { j < length m.now.entries.arcs }
-    ensures { OnOk result (out.new.items ≡ out.old.items ++ printed_arc m.now.entries (arc_at m.now.entries j)) }
+    ensures { OnOk result (out.new.items
+        ≡ out.old.items ++ printed_arc m.now.entries (arc_at m.now.entries j)) }
 {
     out.extend_from_slice(b"arc")?;
     append_word(out, m.arc_name(j))?;
@@ -108,7 +112,8 @@ fn append_arc(out: &mut Vec<u8>, m: &Model, j: u32) -> Result<(), AllocError>
 }
 
 fn append_nodes(out: &mut Vec<u8>, m: &Model) -> Result<(), AllocError>
-    ensures { OnOk result (out.new.items ≡ out.old.items ++ flat_map printed_node m.now.entries.nodes) }
+    ensures { OnOk result (out.new.items
+        ≡ out.old.items ++ flat_map printed_node m.now.entries.nodes) }
 {
     for i in 0..m.nodes() {
         append_node(out, m, i)?;
@@ -117,7 +122,8 @@ fn append_nodes(out: &mut Vec<u8>, m: &Model) -> Result<(), AllocError>
 }
 
 fn append_arcs(out: &mut Vec<u8>, m: &Model) -> Result<(), AllocError>
-    ensures { OnOk result (out.new.items ≡ out.old.items ++ flat_map (printed_arc m.now.entries) m.now.entries.arcs) }
+    ensures { OnOk result (out.new.items
+        ≡ out.old.items ++ flat_map (printed_arc m.now.entries) m.now.entries.arcs) }
 {
     for j in 0..m.arcs() {
         append_arc(out, m, j)?;

@@ -1,2 +1,7 @@
+-- What a curve is, and the faults of a list:
 pub mod CurveValue
 pub mod Faults
+-- Readings, their laws and their count:
+pub mod ReadingLaws
+pub mod Counted
+pub mod Halving

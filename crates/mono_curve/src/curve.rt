@@ -4,14 +4,17 @@ ghost use Rattle.theory.specs.Ends.{whole, is_below};
 ghost use Rattle.theory.specs.CurveList.{item};
 ghost use Rattle.theory.specs.Limits.{number_most, base_most};
 ghost use Rattle.theory.specs.Certificate.{IsWithin};
-ghost use Rattle.mono_curve.specs.CurveValue.{IsValidCurve};
+ghost use Rattle.mono_curve.specs.CurveValue.{IsValidCurve, items_most};
 
 use crate::fault::CurveFault;
-use crate::faults;
 use crate::listed::Listed;
-use std::alloc::Global;
+use crate::monotone::Monotone;
+use crate::steps::Steps;
+use crate::{faults, halving};
+use std::alloc::{AllocError, Global};
 use std::marker::Model;
-use theory::Ext;
+use std::sync::ledger::Ledger;
+use theory::{Ext, pricing};
 
 /// A curve by its list of breakpoints and slopes.
 #[derive(Drop)]
@@ -43,6 +46,22 @@ impl Curve {
     }
 }
 
+/// The curve with the list and base of another.
+pub fn to_curve<C: Listed>(alloc: Global, curve: &C) -> Result<Curve, AllocError>
+    requires short { length (C.listing curve.now).items ≤ items_most }
+    requires base_within { IsWithin base_most (C.listing curve.now).base }
+    ensures { IfOk result (λ c. c.listing ≡ C.listing curve.now) }
+{
+    let mut items = Vec::with_capacity(alloc, curve.len())?;
+    for k in 0..curve.len() {
+        items.push(curve.item(k))?;
+    }
+    Ok(Curve {
+        items,
+        base: curve.base(),
+    })
+}
+
 impl Listed for Curve {
     ghost use Rattle.std.proofs.Common.{lit≤};
     ghost use Rattle.theory.proofs.Bounds.{length-short, conjugate_base-within, within_more};
@@ -70,5 +89,53 @@ impl Listed for Curve {
 
     fn base(&self) -> i128 {
         self.base
+    }
+}
+
+impl Monotone for Curve {
+    ghost use Rattle.std.proofs.Common.{lit≤};
+    ghost use Rattle.theory.proofs.Bounds.{length-short};
+    ghost use Rattle.mono_curve.specs.ReadingLaws.{slopes_law, range_law, rise_law, tensions_law, flows_law};
+
+    ghost items = { λ c. c.listing.items };
+
+    ghost weight = { λ c. 1 };
+
+    ghost is_list = { λ c. c.valid.is_list };
+
+    ghost items_within = { λ c. c.valid.items_within };
+
+    ghost is_short = { λ c. length-short number_most c.listing.items c.valid.is_list c.valid.items_within };
+
+    ghost weighs = { λ c. lit≤ tt };
+
+    ghost between_slopes = { λ c. slopes_law c.listing.items };
+
+    ghost between_ends = { λ c. range_law c.listing.items };
+
+    ghost pairs_rise = { λ c. rise_law c.listing.items c.valid.is_list };
+
+    ghost flows_have_tensions = { λ c. tensions_law c.listing.items c.valid.is_list };
+
+    ghost tensions_have_flows = { λ c. flows_law c.listing.items c.valid.is_list };
+
+    fn domain<L: Ledger>(&self, steps: &mut Steps<L>) -> (Ext, Ext) {
+        steps.tick();
+        pricing::domain_of(&self.items)
+    }
+
+    fn span<L: Ledger>(&self, steps: &mut Steps<L>) -> (Ext, Ext) {
+        steps.tick();
+        pricing::span_of(&self.items)
+    }
+
+    fn slopes_at<L: Ledger>(&self, x: i64, steps: &mut Steps<L>) -> (Ext, Ext) {
+        steps.tick();
+        halving::slopes_of(&self.items, x)
+    }
+
+    fn range_at<L: Ledger>(&self, v: i64, steps: &mut Steps<L>) -> (Ext, Ext) {
+        steps.tick();
+        halving::range_of(&self.items, v)
     }
 }

@@ -4,13 +4,21 @@
 mod curve;
 mod fault;
 mod faults;
+mod halving;
 mod limits;
 mod listed;
+mod monotone;
+mod pricing;
 mod steps;
 
-pub use curve::Curve;
+pub use curve::{Curve, to_curve};
 pub use fault::CurveFault;
 pub use limits::{ARG_MOST, BASE_MOST, FLOW_MOST, ITEMS_MOST, NUMBER_MOST};
 pub use listed::Listed;
+pub use monotone::Monotone;
+pub use pricing::{cost_at, domain_of, on_curve, span_of};
 pub use steps::Steps;
 pub use theory::Ext;
+
+#[cfg(test)]
+mod tests;

@@ -92,6 +92,17 @@ clip_same q PlusInf MinusInf x within = refl
 clip_same q PlusInf (At b) x within = omega (arith, ints, clamps, within)
 clip_same q PlusInf PlusInf x within = refl
 
+-- what is at most the beginning is moved to it, what is at least the end to that
+pub clip_low : (q : ℕ) (b : ℤ) (r : Ext) (x : ℤ) → IsBelow (At b) r → x ≤ℤ (pos q *ℤ b) → clip q (At b) r x ≡ pos q *ℤ b
+clip_low q b MinusInf x below most = omega (arith, ints, clamps)
+clip_low q b (At c) x below most = let m = scale_mono q b c (omega (arith, ints)) in omega (arith, ints, clamps)
+clip_low q b PlusInf x below most = omega (arith, ints, clamps)
+
+pub clip_high : (q : ℕ) (l : Ext) (d x : ℤ) → IsBelow l (At d) → (pos q *ℤ d) ≤ℤ x → clip q l (At d) x ≡ pos q *ℤ d
+clip_high q MinusInf d x below least = omega (arith, ints, clamps)
+clip_high q (At a) d x below least = let m = scale_mono q a d (omega (arith, ints)) in omega (arith, ints, clamps)
+clip_high q PlusInf d x below least = omega (arith, ints, clamps)
+
 -- ---- scaling
 
 raised-scale : (q : ℕ) (e : Ext) (x : ℤ) → raised q e (pos q *ℤ x) ≡ pos q *ℤ raised 1 e x

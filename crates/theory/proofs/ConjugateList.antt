@@ -15,11 +15,13 @@ use Rattle.theory.specs.CurveList.{IsCurveList, pieces, last, before_last}
 use Rattle.theory.specs.OnCurve.{FitsPiece, IsOnCurve}
 use Rattle.theory.specs.Views.{turned_back, conjugate_items}
 use Rattle.theory.specs.ViewLaws.{IsConjugate, ConjugateLaw, ConjugatePairLaw}
+use Rattle.theory.proofs.Ends.{nothing_below}
 use Rattle.theory.proofs.Shape.{Rest, ends, goes_on, Shape, single, long, shape_by_place, place_of_shape, less_of, less_in}
 
 -- ---- it is a curve list
 
-rest_turned : {s : ℤ} {m : Ext} {rest : List Ext} (a : ℤ) → IsBelow (At a) m → Rest s m rest → Rest a (At s) (turned_back (m ∷ rest))
+pub rest_turned : {s : ℤ} {m : Ext} {rest : List Ext} (a : ℤ) → IsBelow (At a) m → Rest s m rest
+    → Rest a (At s) (turned_back (m ∷ rest))
 rest_turned {m = MinusInf} a below ends = let h : false ≡ true = below in cc
 rest_turned {m = At b} a below ends = goes_on (less_of a b below) refl ends
 rest_turned {m = PlusInf} a below ends = ends
@@ -42,18 +44,14 @@ shape-conjugate (long {l = PlusInf} below more) = let h : false ≡ true = below
 
 last_turned : {s : ℤ} {m : Ext} {rest : List Ext} (l : Ext) → IsBelow l m → Rest s m rest
     → last (At s ∷ turned_back (m ∷ rest)) ≡ (if is_finite (last (m ∷ rest)) then PlusInf else before_last (At s ∷ m ∷ rest))
-last_turned {m = MinusInf} MinusInf below ends = let h : false ≡ true = below in cc
-last_turned {m = MinusInf} (At a) below ends = let h : false ≡ true = below in cc
-last_turned {m = MinusInf} PlusInf below ends = let h : false ≡ true = below in cc
+last_turned {m = MinusInf} l below ends = absurd (nothing_below l below)
 last_turned {m = At b} l below ends = refl
 last_turned {m = PlusInf} l below ends = refl
 last_turned l below (goes_on {b = b} rises next more) = last_turned (At b) next more
 
 before_last_turned : {s : ℤ} {m : Ext} {rest : List Ext} (x l : Ext) → IsBelow l m → Rest s m rest
     → (if is_finite (last (At s ∷ turned_back (m ∷ rest))) then PlusInf else before_last (x ∷ At s ∷ turned_back (m ∷ rest))) ≡ last (m ∷ rest)
-before_last_turned {m = MinusInf} x MinusInf below ends = let h : false ≡ true = below in cc
-before_last_turned {m = MinusInf} x (At a) below ends = let h : false ≡ true = below in cc
-before_last_turned {m = MinusInf} x PlusInf below ends = let h : false ≡ true = below in cc
+before_last_turned {m = MinusInf} x l below ends = absurd (nothing_below l below)
 before_last_turned {m = At b} x l below ends = refl
 before_last_turned {m = PlusInf} x l below ends = refl
 before_last_turned x l below (goes_on {b = b} rises next more) = before_last_turned (At b) (At b) next more
@@ -91,10 +89,9 @@ conjugate-is_list items list = conjugate_of_shape (shape_by_place items list)
 
 -- ---- the conjugate of the conjugate
 
-turned-twice : {s : ℤ} {m : Ext} {rest : List Ext} (l : Ext) → IsBelow l m → Rest s m rest → turned_back (At s ∷ turned_back (m ∷ rest)) ≡ At s ∷ m ∷ rest
-turned-twice {m = MinusInf} MinusInf below ends = let h : false ≡ true = below in cc
-turned-twice {m = MinusInf} (At a) below ends = let h : false ≡ true = below in cc
-turned-twice {m = MinusInf} PlusInf below ends = let h : false ≡ true = below in cc
+turned-twice : {s : ℤ} {m : Ext} {rest : List Ext} (l : Ext) → IsBelow l m → Rest s m rest
+    → turned_back (At s ∷ turned_back (m ∷ rest)) ≡ At s ∷ m ∷ rest
+turned-twice {m = MinusInf} l below ends = absurd (nothing_below l below)
 turned-twice {m = At b} l below ends = refl
 turned-twice {m = PlusInf} l below ends = refl
 turned-twice l below (goes_on {s = s} {b = b} rises next more) = ap (λ items. At s ∷ At b ∷ items) (turned-twice (At b) next more)
@@ -124,10 +121,9 @@ record Turned (q : ℕ) (x v s : ℤ) (m : Ext) (rest : List Ext) : Type 0 where
 unless : (a b c d : ℤ) → (a <ℤ b → c ≤ℤ d) → d <ℤ c → b ≤ℤ a
 unless a b c d h less = by_lt_z a b (λ l. let m = h l in absurd (omega (arith, ints))) (λ l. l)
 
-pair_turned : (q : ℕ) (x v : ℤ) {s : ℤ} {m : Ext} {rest : List Ext} (l : Ext) → IsBelow l m → Rest s m rest → Behind q x v s m rest → Turned q x v s m rest
-pair_turned q x v {m = MinusInf} MinusInf below ends behind = let h : false ≡ true = below in cc
-pair_turned q x v {m = MinusInf} (At a) below ends behind = let h : false ≡ true = below in cc
-pair_turned q x v {m = MinusInf} PlusInf below ends behind = let h : false ≡ true = below in cc
+pair_turned : (q : ℕ) (x v : ℤ) {s : ℤ} {m : Ext} {rest : List Ext} (l : Ext) → IsBelow l m → Rest s m rest
+    → Behind q x v s m rest → Turned q x v s m rest
+pair_turned q x v {m = MinusInf} l below ends behind = absurd (nothing_below l below)
 pair_turned q x v {s = s} {m = At b} l below ends behind =
     record {
       most = tt;
@@ -148,7 +144,8 @@ pair_turned q x v l below (goes_on {s = s} {t = t} {b = b} {r = r} rises next mo
       );
     }
 
-pair_of_shape : (q : ℕ) (x v : ℤ) {items : List Ext} → Shape items → IsOnCurve q items x v → IsOnCurve q (conjugate_items items) v x
+pair_of_shape : (q : ℕ) (x v : ℤ) {items : List Ext} → Shape items → IsOnCurve q items x v
+    → IsOnCurve q (conjugate_items items) v x
 pair_of_shape q x v single pair =
     record {
       in_domain = record { least = tt; most = tt };

@@ -4,7 +4,7 @@ use Rattle.std.proofs.lemmas.Int.{ints}
 use Rattle.std.proofs.Math.IntN.{neg_ℤ-neg_ℤ}
 use Rattle.theory.specs.declared.ext.Ext.{Ext}
 use Rattle.theory.specs.declared.ext.Ext.TheVariants.{MinusInf, At, PlusInf}
-use Rattle.theory.specs.Ends.{is_finite, IsBelow, negated}
+use Rattle.theory.specs.Ends.{is_finite, IsBelow, is_below, negated}
 
 pub below_trans : (c d e : Ext) → IsBelow c d → IsBelow d e → IsBelow c e
 below_trans MinusInf MinusInf e g h = let f : false ≡ true = g in cc
@@ -18,6 +18,20 @@ below_trans (At a) (At b) PlusInf g h = refl
 below_trans MinusInf PlusInf e g h = let f : false ≡ true = h in cc
 below_trans (At a) PlusInf e g h = let f : false ≡ true = h in cc
 below_trans PlusInf d e g h = let f : false ≡ true = g in cc
+
+pub nothing_below : (e : Ext) → ¬ (IsBelow e MinusInf)
+nothing_below MinusInf h = let f : false ≡ true = h in cc
+nothing_below (At a) h = let f : false ≡ true = h in cc
+nothing_below PlusInf h = let f : false ≡ true = h in cc
+
+pub not_above : (l r : Ext) → IsBelow l r → is_below r l ≡ false
+not_above MinusInf MinusInf h = refl
+not_above MinusInf (At b) h = refl
+not_above MinusInf PlusInf h = refl
+not_above (At a) MinusInf h = let f : false ≡ true = h in cc
+not_above (At a) (At b) h = sym (omega (arith, ints))
+not_above (At a) PlusInf h = refl
+not_above PlusInf r h = let f : false ≡ true = h in cc
 
 pub negated-negated : (e : Ext) → negated (negated e) ≡ e
 negated-negated MinusInf = refl

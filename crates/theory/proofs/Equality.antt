@@ -19,7 +19,7 @@ use Rattle.theory.specs.ConjugateCost.{finite_points, or_one, listed_points, con
 use Rattle.theory.specs.CurveLaws.{FenchelEqualityLaw}
 use Rattle.theory.proofs.Rings.{rings, scale_mono, mul_zero_right}
 use Rattle.theory.proofs.Sums.{Each-map, Each-zip, sum_zeros, greatest_at, greatest_most, greatest_over-scale}
-use Rattle.theory.proofs.Shape.{Rest, ends, goes_on, Shape, single, long, shape_by_place}
+use Rattle.theory.proofs.Shape.{Rest, ends, goes_on, Shape, single, long, shape_by_place, pieces_below}
 use Rattle.theory.proofs.Ends.{below_trans}
 use Rattle.theory.proofs.ZeroCost.{below_last}
 use Rattle.theory.proofs.Clip.{clip_past_same, clip_before_same, clip_between, clip-scale}
@@ -124,15 +124,6 @@ equal_on_curve q c x w list pair =
     closed (pos q) (cost q c x) (conjugate_cost q c w) x w least (conjugate_most q c x w shape pair)
 
 -- ---- on the curve by equality
-
-pieces_below_rest : (l : Ext) {s : ℤ} {m : Ext} {rest : List Ext} → IsBelow l m → Rest s m rest
-    → Each (λ k. IsBelow k.left k.right) (pieces (l ∷ At s ∷ m ∷ rest))
-pieces_below_rest l below ends = (below, tt)
-pieces_below_rest l below (goes_on {b = b} rises next more) = (below, pieces_below_rest (At b) next more)
-
-pub pieces_below : {items : List Ext} → Shape items → Each (λ k. IsBelow k.left k.right) (pieces items)
-pieces_below single = tt
-pieces_below (long {l = l} below more) = pieces_below_rest l below more
 
 -- the flow x fits a piece that y fits with no share between them: the slope is the tension, or both stand at one place
 fits_by_share : (q : ℕ) (y w x : ℤ) (k : Piece) → 1 ≤ q → IsBelow k.left k.right → FitsPiece q y w k

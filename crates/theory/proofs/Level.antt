@@ -46,17 +46,20 @@ below_apart d e h = rw h
 
 -- ---- what stays
 
-flat_goes : (p s : Ext) (rest kept : List Ext) → without_flat rest ≡ kept → is_same_end p (first kept) ≡ true → without_flat (p ∷ s ∷ rest) ≡ kept
+flat_goes : (p s : Ext) (rest kept : List Ext) → without_flat rest ≡ kept → is_same_end p (first kept) ≡ true
+    → without_flat (p ∷ s ∷ rest) ≡ kept
 flat_goes p s rest kept e same = rw (e, same)
 
-steep_stays : (p s : Ext) (rest kept : List Ext) → without_flat rest ≡ kept → is_same_end p (first kept) ≡ false → without_flat (p ∷ s ∷ rest) ≡ p ∷ s ∷ kept
+steep_stays : (p s : Ext) (rest kept : List Ext) → without_flat rest ≡ kept → is_same_end p (first kept) ≡ false
+    → without_flat (p ∷ s ∷ rest) ≡ p ∷ s ∷ kept
 steep_stays p s rest kept e other = rw (e, other)
 
 -- ---- level 0
 
 flat_of_rest : {s : ℤ} {m : Ext} {rest : List Ext} → Rest s m rest → without_flat (m ∷ rest) ≡ m ∷ rest
 flat_of_rest ends = refl
-flat_of_rest (goes_on {t = t} {b = b} {r = r} {rest = rest} rises below more) = steep_stays (At b) (At t) (r ∷ rest) (r ∷ rest) (flat_of_rest more) (below_apart (At b) r below)
+flat_of_rest (goes_on {t = t} {b = b} {r = r} {rest = rest} rises below more) =
+    steep_stays (At b) (At t) (r ∷ rest) (r ∷ rest) (flat_of_rest more) (below_apart (At b) r below)
 
 up-zero : (e : Ext) → rounded_up 0 e ≡ e
 up-zero e = rw (down-zero (negated e), negated-negated e)
@@ -68,9 +71,11 @@ points_zero (goes_on {t = t} {b = b} rises below more) = ap₂ (λ p items. p �
 zero_of_shape : {items : List Ext} → Shape items → level_items 0 items ≡ items
 zero_of_shape (single {p = p}) =
     let itself : is_below (At p) (At p) ≡ false = sym (omega (arith, ints)) in
-    ap₂ (λ down up. without_flat (down ∷ At (pos 0) ∷ up ∷ [])) (down-zero (At p)) (up-zero (At p)) ∙ flat_goes (At p) (At (pos 0)) (At p ∷ []) (At p ∷ []) refl (rw itself)
+    ap₂ (λ down up. without_flat (down ∷ At (pos 0) ∷ up ∷ [])) (down-zero (At p)) (up-zero (At p))
+    ∙ flat_goes (At p) (At (pos 0)) (At p ∷ []) (At p ∷ []) refl (rw itself)
 zero_of_shape (long {l = l} {m = m} {s = s} {rest = rest} below more) =
-    ap₂ (λ p items. without_flat (p ∷ At s ∷ items)) (down-zero l) (points_zero more) ∙ steep_stays l (At s) (m ∷ rest) (m ∷ rest) (flat_of_rest more) (below_apart l m below)
+    ap₂ (λ p items. without_flat (p ∷ At s ∷ items)) (down-zero l) (points_zero more)
+    ∙ steep_stays l (At s) (m ∷ rest) (m ∷ rest) (flat_of_rest more) (below_apart l m below)
 
 pub level-zero : LevelZeroLaw
 level-zero items list = zero_of_shape (shape_by_place items list)
@@ -85,7 +90,8 @@ record Kept (k : ℕ) (s : ℤ) (m : Ext) (rest : List Ext) : Type 0 where
   same : without_flat (rounded_points k (m ∷ rest)) ≡ head ∷ tail
   follows : Rest s head tail
 
-in_order : (k : ℕ) (l m head : Ext) → IsBelow l m → (head ≡ rounded_down k m) ⊎ (head ≡ rounded_up k m) → is_below head (rounded_down k l) ≡ false
+in_order : (k : ℕ) (l m head : Ext) → IsBelow l m → (head ≡ rounded_down k m) ⊎ (head ≡ rounded_up k m)
+    → is_below head (rounded_down k l) ≡ false
 in_order k l m head below (inl e) = rw e (down-mono k l m below)
 in_order k l m head below (inr e) = rw e (up-above_down k l m below)
 
@@ -93,7 +99,8 @@ lesser_slope : {t : ℤ} {m : Ext} {rest : List Ext} (s : ℤ) → s <ℤ t → 
 lesser_slope s less ends = ends
 lesser_slope s less (goes_on rises below more) = goes_on (omega (arith, ints)) below more
 
-kept_before : (k : ℕ) (s t b : ℤ) (r : Ext) (rest : List Ext) → s <ℤ t → IsBelow (At b) r → Kept k t r rest → Kept k s (At b) (At t ∷ r ∷ rest)
+kept_before : (k : ℕ) (s t b : ℤ) (r : Ext) (rest : List Ext) → s <ℤ t → IsBelow (At b) r → Kept k t r rest
+    → Kept k s (At b) (At t ∷ r ∷ rest)
 kept_before k s t b r rest rises below kept = by (is_same_end (rounded_down k (At b)) kept.head) refl
   where
     by : (x : Bool) → is_same_end (rounded_down k (At b)) kept.head ≡ x → Kept k s (At b) (At t ∷ r ∷ rest)
@@ -116,7 +123,8 @@ kept_before k s t b r rest rises below kept = by (is_same_end (rounded_down k (A
 
 kept_of : (k : ℕ) {s : ℤ} {m : Ext} {rest : List Ext} → Rest s m rest → Kept k s m rest
 kept_of k {m = m} ends = record { head = rounded_up k m; tail = []; rounding = inr refl; same = refl; follows = ends }
-kept_of k (goes_on {s = s} {t = t} {b = b} {r = r} {rest = rest} rises below more) = kept_before k s t b r rest rises below (kept_of k more)
+kept_of k (goes_on {s = s} {t = t} {b = b} {r = r} {rest = rest} rises below more) =
+    kept_before k s t b r rest rises below (kept_of k more)
 
 -- a list that begins at a finite point
 shape_behind : {s b : ℤ} {rest : List Ext} → Rest s (At b) rest → Shape (At b ∷ rest)
@@ -124,13 +132,15 @@ shape_behind ends = single
 shape_behind (goes_on rises below more) = long below more
 
 -- the list of the first slope and what was kept behind it
-level_of_kept : (k : ℕ) (l m : Ext) (s : ℤ) (rest : List Ext) → IsBelow l m → Kept k s m rest → Shape (level_items k (l ∷ At s ∷ m ∷ rest))
+level_of_kept : (k : ℕ) (l m : Ext) (s : ℤ) (rest : List Ext) → IsBelow l m → Kept k s m rest
+    → Shape (level_items k (l ∷ At s ∷ m ∷ rest))
 level_of_kept k l m s rest below kept = by (is_same_end (rounded_down k l) kept.head) refl
   where
     order : is_below kept.head (rounded_down k l) ≡ false
     order = in_order k l m kept.head below kept.rounding
 
-    from : (head : Ext) (tail : List Ext) (l m : Ext) → IsBelow l m → (head ≡ rounded_down k m) ⊎ (head ≡ rounded_up k m) → rounded_down k l ≡ head → Rest s head tail → Shape (head ∷ tail)
+    from : (head : Ext) (tail : List Ext) (l m : Ext) → IsBelow l m → (head ≡ rounded_down k m) ⊎ (head ≡ rounded_up k m)
+        → rounded_down k l ≡ head → Rest s head tail → Shape (head ∷ tail)
     from head tail MinusInf MinusInf below rounding e follows = let f : false ≡ true = below in cc
     from head tail MinusInf (At b) below (inl d) e follows = let f = e ∙ d in cc
     from head tail MinusInf (At b) below (inr d) e follows = let f = e ∙ d in cc

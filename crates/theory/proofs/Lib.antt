@@ -1,6 +1,7 @@
 -- Arithmetic of whole numbers:
 pub mod Rings
 pub mod Sums
+pub mod SumsBelow
 -- Curve lists:
 pub mod Ends
 pub mod Shape
@@ -15,8 +16,18 @@ pub mod Equality
 pub mod Whole
 -- Derived curves:
 pub mod ReversedList
+pub mod ReversedPairs
+pub mod ReversedCost
 pub mod ZeroCost
 pub mod ConjugateList
-pub mod ReversedCost
+pub mod Parts
+pub mod ConjugateCost
 pub mod Rounding
 pub mod Level
+-- Networks and certificates:
+pub mod SumLaw
+pub mod Duality
+pub mod Refusals
+pub mod Unbounded
+pub mod Certificates
+pub mod GroundedLaw

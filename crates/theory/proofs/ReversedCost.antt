@@ -4,83 +4,28 @@
 -- adds to the cost at -x what the piece adds at x, and the rest points are opposite too: the costs are the same sum.
 -- The listed points are the opposites of those of the list, from the back; each takes part in the greatest with the
 -- same value, and the greatest doesn't mind the order.
-use Rattle.std.proofs.Common.{◌≡◌, ℕ, ◌<◌, ℤ, pos, ◌+ℤ◌, ◌-ℤ◌, ◌*ℤ◌, neg_ℤ, true, false, List, [], ◌∷◌, ◌++◌, map, reverse, length, refl, sym, ap, ap₂, ◌∙◌, arith}
+use Rattle.std.proofs.Common.{◌≡◌, ℕ, ◌<◌, ℤ, pos, ◌+ℤ◌, ◌-ℤ◌, ◌*ℤ◌, neg_ℤ, false, List, [], ◌∷◌, ◌++◌, map, reverse, length, refl, sym, ap, ◌∙◌, arith}
 use Rattle.std.specs.Int.{int_max}
 use Rattle.std.proofs.lemmas.Int.{ints, clamps}
-use Rattle.std.proofs.lemmas.List.{reverse-append, append_assoc, append-nil, length-reverse, length-map}
+use Rattle.std.proofs.lemmas.List.{reverse-append, append-nil, length-reverse, length-map}
 use Rattle.theory.specs.declared.ext.Ext.{Ext}
 use Rattle.theory.specs.declared.ext.Ext.TheVariants.{MinusInf, At, PlusInf}
-use Rattle.theory.specs.Sums.{sum_over, greatest_over, Each}
+use Rattle.theory.specs.Sums.{sum_over, greatest_over}
 use Rattle.theory.specs.Ends.{IsBelow, is_below, negated}
-use Rattle.theory.specs.CurveList.{IsCurveList, Listing, Piece, pieces, first, last}
+use Rattle.theory.specs.CurveList.{Listing, Piece, pieces, first, last}
 use Rattle.theory.specs.Domain.{clip, rest_point}
 use Rattle.theory.specs.Cost.{rise, cost}
 use Rattle.theory.specs.ConjugateCost.{with_finite, finite_points, or_one, listed_points, conjugate_cost}
 use Rattle.theory.specs.Views.{reversed_items, reversed_of}
 use Rattle.theory.specs.ViewLaws.{ReversedCostLaw, ReversedConjugateCostLaw}
 use Rattle.theory.proofs.Rings.{rings, scale_mono}
-use Rattle.theory.proofs.Shape.{Rest, ends, goes_on, Shape, single, long, shape_by_place}
-use Rattle.theory.proofs.ReversedList.{reversed-more}
+use Rattle.theory.proofs.Sums.{sum_over-each, greatest_over-same}
+use Rattle.theory.proofs.Ends.{not_above}
+use Rattle.theory.proofs.Shape.{Shape, single, long, shape_by_place, pieces_below}
+use Rattle.theory.proofs.ReversedPairs.{Alternating, point, longer, alternating, alternating-reversed, reversed-two_more, last-reversed_of, first-reversed_of, turned}
 use Rattle.theory.proofs.ZeroCost.{below_last}
 
--- ---- lists of points with a whole slope between any two
-
-data Alternating : List Ext → Type 0 where
-  point : {p : Ext} → Alternating (p ∷ [])
-  longer : {p r : Ext} {s : ℤ} {rest : List Ext} → Alternating (r ∷ rest) → Alternating (p ∷ At s ∷ r ∷ rest)
-
-alternating_rest : {s : ℤ} {m : Ext} {rest : List Ext} → Rest s m rest → Alternating (m ∷ rest)
-alternating_rest ends = point
-alternating_rest (goes_on rises below more) = longer (alternating_rest more)
-
-alternating : {items : List Ext} → Shape items → Alternating items
-alternating single = point
-alternating (long below more) = longer (alternating_rest more)
-
-alternating-added : (s : ℤ) (r : Ext) {items : List Ext} → Alternating items → Alternating (items ++ At s ∷ r ∷ [])
-alternating-added s r point = longer point
-alternating-added s r (longer more) = longer (alternating-added s r more)
-
--- the reversed list of a point and a slope in front of others
-reversed-two_more : (p : Ext) (s : ℤ) (items : List Ext) → reversed_items (p ∷ At s ∷ items) ≡ reversed_items items ++ At (neg_ℤ s) ∷ negated p ∷ []
-reversed-two_more p s items =
-    reversed-more p (At s ∷ items) ∙ ap (λ l. l ++ negated p ∷ []) (reversed-more (At s) items) ∙ append_assoc (reversed_items items) (At (neg_ℤ s) ∷ []) (negated p ∷ [])
-
-alternating-reversed : {items : List Ext} → Alternating items → Alternating (reversed_items items)
-alternating-reversed point = point
-alternating-reversed (longer {p = p} {r = r} {s = s} {rest = rest} more) =
-    rw (reversed-two_more p s (r ∷ rest)) (alternating-added (neg_ℤ s) (negated p) (alternating-reversed more))
-
--- ---- the ends
-
-last-added : (s : Ext) (r : Ext) {items : List Ext} → Alternating items → last (items ++ s ∷ r ∷ []) ≡ r
-last-added s r point = refl
-last-added s r (longer {r = m} more) = last-added s r more
-
-last-reversed_of : {items : List Ext} → Alternating items → last (reversed_items items) ≡ negated (first items)
-last-reversed_of point = refl
-last-reversed_of (longer {p = p} {r = r} {s = s} {rest = rest} more) =
-    rw (reversed-two_more p s (r ∷ rest)) (last-added (At (neg_ℤ s)) (negated p) (alternating-reversed more))
-
-first-added : (others : List Ext) {items : List Ext} → Alternating items → first (items ++ others) ≡ first items
-first-added others point = refl
-first-added others (longer more) = refl
-
-first-reversed_of : {items : List Ext} → Alternating items → first (reversed_items items) ≡ negated (last items)
-first-reversed_of point = refl
-first-reversed_of (longer {p = p} {r = r} {s = s} {rest = rest} more) =
-    rw (reversed-two_more p s (r ∷ rest)) (first-added (At (neg_ℤ s) ∷ negated p ∷ []) (alternating-reversed more) ∙ first-reversed_of more)
-
-pub first-reversed : (items : List Ext) → IsCurveList items → first (reversed_items items) ≡ negated (last items)
-first-reversed items list = first-reversed_of (alternating (shape_by_place items list))
-
-pub last-reversed : (items : List Ext) → IsCurveList items → last (reversed_items items) ≡ negated (first items)
-last-reversed items list = last-reversed_of (alternating (shape_by_place items list))
-
 -- ---- the pieces
-
-abbrev turned : Piece → Piece
-turned k = record { left = negated k.right; slope = neg_ℤ k.slope; right = negated k.left }
 
 pieces-added : (f : Piece → ℤ) (s : ℤ) (r : Ext) {items : List Ext} → Alternating items
     → sum_over f (pieces (items ++ At s ∷ r ∷ [])) ≡ sum_over f (pieces items) +ℤ f (record { left = last items; slope = s; right = r })
@@ -90,7 +35,8 @@ pieces-added f s r (longer {p = p} {r = m} {s = t} {rest = rest} more) =
     let x = f (record { left = p; slope = t; right = m }) in
     omega (arith, ints)
 
-sum_over-reversed : (f : Piece → ℤ) {items : List Ext} → Alternating items → sum_over f (pieces (reversed_items items)) ≡ sum_over (λ k. f (turned k)) (pieces items)
+sum_over-reversed : (f : Piece → ℤ) {items : List Ext} → Alternating items
+    → sum_over f (pieces (reversed_items items)) ≡ sum_over (λ k. f (turned k)) (pieces items)
 sum_over-reversed f point = refl
 sum_over-reversed f (longer {p = p} {r = r} {s = s} {rest = rest} more) =
     let e = pieces-added f (neg_ℤ s) (negated p) (alternating-reversed more) in
@@ -104,20 +50,12 @@ sum_over-reversed f (longer {p = p} {r = r} {s = s} {rest = rest} more) =
 
 -- ---- the cost
 
-not_above : (l r : Ext) → IsBelow l r → is_below r l ≡ false
-not_above MinusInf MinusInf h = refl
-not_above MinusInf (At b) h = refl
-not_above MinusInf PlusInf h = refl
-not_above (At a) MinusInf h = let f : false ≡ true = h in cc
-not_above (At a) (At b) h = sym (omega (arith, ints))
-not_above (At a) PlusInf h = refl
-not_above PlusInf r h = let f : false ≡ true = h in cc
-
 not_above_itself : (p : ℤ) → is_below (At p) (At p) ≡ false
 not_above_itself p = sym (omega (arith, ints))
 
 -- a number's opposite, moved into the turned range
-pub clip-turned : (q : ℕ) (l r : Ext) (x : ℤ) → is_below r l ≡ false → clip q (negated r) (negated l) (neg_ℤ x) ≡ neg_ℤ (clip q l r x)
+pub clip-turned : (q : ℕ) (l r : Ext) (x : ℤ) → is_below r l ≡ false
+    → clip q (negated r) (negated l) (neg_ℤ x) ≡ neg_ℤ (clip q l r x)
 clip-turned q MinusInf MinusInf x h = refl
 clip-turned q MinusInf (At b) x h = omega (arith, rings, clamps)
 clip-turned q MinusInf PlusInf x h = refl
@@ -131,41 +69,37 @@ clip-turned q PlusInf PlusInf x h = refl
 turned_product : (s a b c d : ℤ) → c ≡ neg_ℤ a → d ≡ neg_ℤ b → neg_ℤ s *ℤ (c -ℤ d) ≡ s *ℤ (a -ℤ b)
 turned_product s a b c d e f = rw (e, f) (omega (arith, rings))
 
-rise-turned : (q : ℕ) (y x : ℤ) (k : Piece) → is_below k.right k.left ≡ false → rise q (neg_ℤ y) (neg_ℤ x) (turned k) ≡ rise q y x k
-rise-turned q y x k h = turned_product k.slope _ _ _ _ (clip-turned q k.left k.right x h) (clip-turned q k.left k.right y h)
-
-abbrev IsOrdered : Piece → Type 0
-IsOrdered k = is_below k.right k.left ≡ false
-
-ordered_rest : {s : ℤ} {m : Ext} {rest : List Ext} → Rest s m rest → Each IsOrdered (pieces (m ∷ rest))
-ordered_rest ends = tt
-ordered_rest (goes_on {b = b} {r = r} rises below more) = (not_above (At b) r below, ordered_rest more)
-
-ordered : {items : List Ext} → Shape items → Each IsOrdered (pieces items)
-ordered single = tt
-ordered (long {l = l} {m = m} below more) = (not_above l m below, ordered_rest more)
+rise-turned : (q : ℕ) (y x : ℤ) (k : Piece) → IsBelow k.left k.right → rise q (neg_ℤ y) (neg_ℤ x) (turned k) ≡ rise q y x k
+rise-turned q y x k below =
+    let order = not_above k.left k.right below in
+    turned_product k.slope _ _ _ _ (clip-turned q k.left k.right x order) (clip-turned q k.left k.right y order)
 
 -- the domain's ends are in order
 ordered_ends : {items : List Ext} → Shape items → is_below (last items) (first items) ≡ false
 ordered_ends (single {p = p}) = not_above_itself p
 ordered_ends (long {l = l} {m = m} {rest = rest} below more) = not_above l (last (m ∷ rest)) (below_last l below more)
 
-sum_over-each : {A : Type 0} (P : A → Type 0) (f g : A → ℤ) (xs : List A) → Each P xs → ((x : A) → P x → f x ≡ g x) → sum_over f xs ≡ sum_over g xs
-sum_over-each P f g [] each same = refl
-sum_over-each P f g (x ∷ xs) each same = let e = same x each.0 in let more = sum_over-each P f g xs each.1 same in omega (arith, ints)
-
 rest_point-reversed : {items : List Ext} → Shape items → rest_point (reversed_items items) ≡ neg_ℤ (rest_point items)
 rest_point-reversed {items = items} shape =
-    rw (first-reversed_of (alternating shape), last-reversed_of (alternating shape)) (clip-turned 1 (first items) (last items) (pos 0) (ordered_ends shape))
+    rw (first-reversed_of (alternating shape), last-reversed_of (alternating shape))
+    (clip-turned 1 (first items) (last items) (pos 0) (ordered_ends shape))
 
 neg_product : (q : ℕ) (x y : ℤ) → x ≡ neg_ℤ y → pos q *ℤ x ≡ neg_ℤ (pos q *ℤ y)
 neg_product q x y e = rw e (omega (arith, rings))
 
 cost_of_shape : (q : ℕ) (c : Listing) (x : ℤ) → Shape c.items → cost q (reversed_of c) (neg_ℤ x) ≡ cost q c x
 cost_of_shape q c x shape =
+    let rest = pos q *ℤ rest_point c.items in
     let at_rest = neg_product q (rest_point (reversed_items c.items)) (rest_point c.items) (rest_point-reversed shape) in
-    let turn = sum_over-reversed (rise q (neg_ℤ (pos q *ℤ rest_point c.items)) (neg_ℤ x)) (alternating shape) in
-    let same = sum_over-each IsOrdered (λ k. rise q (neg_ℤ (pos q *ℤ rest_point c.items)) (neg_ℤ x) (turned k)) (rise q (pos q *ℤ rest_point c.items) x) (pieces c.items) (ordered shape) (rise-turned q (pos q *ℤ rest_point c.items) x) in
+    let turn = sum_over-reversed (rise q (neg_ℤ rest) (neg_ℤ x)) (alternating shape) in
+    let same =
+    sum_over-each
+    (λ k. IsBelow k.left k.right)
+    (λ k. rise q (neg_ℤ rest) (neg_ℤ x) (turned k))
+    (rise q rest x)
+    (pieces c.items)
+    (pieces_below shape)
+    (rise-turned q rest x) in
     rw at_rest (ap (λ z. pos q *ℤ c.base +ℤ z) (turn ∙ same))
 
 pub cost-reversed : ReversedCostLaw
@@ -179,7 +113,8 @@ opposites xs = reverse (map neg_ℤ xs)
 opposites-more : (x : ℤ) (xs : List ℤ) → opposites (x ∷ xs) ≡ opposites xs ++ neg_ℤ x ∷ []
 opposites-more x xs = reverse-append (neg_ℤ x ∷ []) (map neg_ℤ xs)
 
-finite_points-added : (s r : Ext) {items : List Ext} → Alternating items → finite_points (items ++ s ∷ r ∷ []) ≡ finite_points items ++ with_finite r []
+finite_points-added : (s r : Ext) {items : List Ext} → Alternating items
+    → finite_points (items ++ s ∷ r ∷ []) ≡ finite_points items ++ with_finite r []
 finite_points-added s MinusInf (point {p = MinusInf}) = refl
 finite_points-added s (At b) (point {p = MinusInf}) = refl
 finite_points-added s PlusInf (point {p = MinusInf}) = refl
@@ -193,16 +128,21 @@ finite_points-added s r (longer {p = MinusInf} more) = finite_points-added s r m
 finite_points-added s r (longer {p = At a} more) = ap (λ xs. a ∷ xs) (finite_points-added s r more)
 finite_points-added s r (longer {p = PlusInf} more) = finite_points-added s r more
 
-finite_points-reversed : {items : List Ext} → Alternating items → finite_points (reversed_items items) ≡ opposites (finite_points items)
+finite_points-reversed : {items : List Ext} → Alternating items
+    → finite_points (reversed_items items) ≡ opposites (finite_points items)
 finite_points-reversed (point {p = MinusInf}) = refl
 finite_points-reversed (point {p = At a}) = refl
 finite_points-reversed (point {p = PlusInf}) = refl
-finite_points-reversed (longer {p = MinusInf} {r = r} {s = s} {rest = rest} more) =
-    rw (reversed-two_more MinusInf s (r ∷ rest), finite_points-added (At (neg_ℤ s)) PlusInf (alternating-reversed more), append-nil (finite_points (reversed_items (r ∷ rest)))) (finite_points-reversed more)
-finite_points-reversed (longer {p = At a} {r = r} {s = s} {rest = rest} more) =
-    rw (reversed-two_more (At a) s (r ∷ rest), finite_points-added (At (neg_ℤ s)) (At (neg_ℤ a)) (alternating-reversed more), finite_points-reversed more) (sym (opposites-more a (finite_points (r ∷ rest))))
-finite_points-reversed (longer {p = PlusInf} {r = r} {s = s} {rest = rest} more) =
-    rw (reversed-two_more PlusInf s (r ∷ rest), finite_points-added (At (neg_ℤ s)) MinusInf (alternating-reversed more), append-nil (finite_points (reversed_items (r ∷ rest)))) (finite_points-reversed more)
+finite_points-reversed (longer {p = p} {r = r} {s = s} {rest = rest} more) =
+    ap finite_points (reversed-two_more p s (r ∷ rest))
+    ∙ finite_points-added (At (neg_ℤ s)) (negated p) (alternating-reversed more)
+    ∙ ap (λ points. points ++ with_finite (negated p) []) (finite_points-reversed more)
+    ∙ with_point p (finite_points (r ∷ rest))
+  where
+    with_point : (e : Ext) (points : List ℤ) → opposites points ++ with_finite (negated e) [] ≡ opposites (with_finite e points)
+    with_point MinusInf points = append-nil (opposites points)
+    with_point (At a) points = sym (opposites-more a points)
+    with_point PlusInf points = append-nil (opposites points)
 
 -- the greatest over a list with one more value behind
 greatest-added : (f : ℤ → ℤ) (a x : ℤ) (xs : List ℤ) → greatest_over f (a ∷ xs ++ x ∷ []) ≡ int_max (greatest_over f (a ∷ xs)) (f x)
@@ -213,7 +153,8 @@ greatest-added f a x (b ∷ xs) = ap (int_max (f a)) (greatest-added f b x xs) �
     grouped k l m = omega (arith, ints, clamps)
 
 -- of a list that isn't empty
-greatest-pushed : (f : ℤ → ℤ) (x : ℤ) (xs : List ℤ) → 0 < length xs → greatest_over f (xs ++ x ∷ []) ≡ int_max (greatest_over f xs) (f x)
+greatest-pushed : (f : ℤ → ℤ) (x : ℤ) (xs : List ℤ) → 0 < length xs
+    → greatest_over f (xs ++ x ∷ []) ≡ int_max (greatest_over f xs) (f x)
 greatest-pushed f x [] h = absurd (omega arith)
 greatest-pushed f x (a ∷ xs) h = greatest-added f a x xs
 
@@ -228,24 +169,24 @@ greatest-opposites f a (b ∷ xs) =
     swapped : (k l : ℤ) → int_max k l ≡ int_max l k
     swapped k l = omega (arith, ints, clamps)
 
-greatest-same : (f g : ℤ → ℤ) (xs : List ℤ) → ((x : ℤ) → f x ≡ g x) → greatest_over f xs ≡ greatest_over g xs
-greatest-same f g [] same = refl
-greatest-same f g (x ∷ []) same = same x
-greatest-same f g (x ∷ y ∷ ys) same = ap₂ int_max (same x) (greatest-same f g (y ∷ ys) same)
-
-greatest-listed : (f g : ℤ → ℤ) (points : List ℤ) (r : ℤ) → ((x : ℤ) → f (neg_ℤ x) ≡ g x) → greatest_over f (or_one (opposites points) (neg_ℤ r)) ≡ greatest_over g (or_one points r)
+greatest-listed : (f g : ℤ → ℤ) (points : List ℤ) (r : ℤ) → ((x : ℤ) → f (neg_ℤ x) ≡ g x)
+    → greatest_over f (or_one (opposites points) (neg_ℤ r)) ≡ greatest_over g (or_one points r)
 greatest-listed f g [] r same = same r
 greatest-listed f g (a ∷ points) r same =
-    ap (greatest_over f) (kept (opposites (a ∷ points)) (neg_ℤ r) (omega (arith, length-reverse (map neg_ℤ (a ∷ points))))) ∙ greatest-opposites f a points ∙ greatest-same (λ x. f (neg_ℤ x)) g (a ∷ points) same
+    ap (greatest_over f) (kept (opposites (a ∷ points)) (neg_ℤ r) (omega (arith, length-reverse (map neg_ℤ (a ∷ points)))))
+    ∙ greatest-opposites f a points
+    ∙ greatest_over-same (λ x. f (neg_ℤ x)) g (a ∷ points) same
   where
     kept : (xs : List ℤ) (x : ℤ) → 0 < length xs → or_one xs x ≡ xs
     kept [] x h = absurd (omega arith)
     kept (y ∷ xs) x h = refl
 
-listed_points-reversed : {items : List Ext} → Shape items → listed_points (reversed_items items) ≡ or_one (opposites (finite_points items)) (neg_ℤ (rest_point items))
+listed_points-reversed : {items : List Ext} → Shape items
+    → listed_points (reversed_items items) ≡ or_one (opposites (finite_points items)) (neg_ℤ (rest_point items))
 listed_points-reversed shape = rw (finite_points-reversed (alternating shape), rest_point-reversed shape)
 
-conjugate_cost_of_shape : (q : ℕ) (c : Listing) (w : ℤ) → Shape c.items → conjugate_cost q (reversed_of c) (neg_ℤ w) ≡ conjugate_cost q c w
+conjugate_cost_of_shape : (q : ℕ) (c : Listing) (w : ℤ) → Shape c.items
+    → conjugate_cost q (reversed_of c) (neg_ℤ w) ≡ conjugate_cost q c w
 conjugate_cost_of_shape q c w shape =
     let f = λ (b : ℤ). neg_ℤ w *ℤ b -ℤ cost q (reversed_of c) (pos q *ℤ b) in
     let g = λ (b : ℤ). w *ℤ b -ℤ cost q c (pos q *ℤ b) in

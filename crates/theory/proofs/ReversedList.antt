@@ -17,7 +17,10 @@ reversed-more e items = reverse-append (negated e ∷ []) (map negated items)
 map-reverse : {A B : Type 0} (f : A → B) (xs : List A) → map f (reverse xs) ≡ reverse (map f xs)
 map-reverse f [] = refl
 map-reverse f (x ∷ xs) =
-    ap (map f) (reverse-append (x ∷ []) xs) ∙ map-append f (reverse xs) (x ∷ []) ∙ ap (λ ys. ys ++ f x ∷ []) (map-reverse f xs) ∙ sym (reverse-append (f x ∷ []) (map f xs))
+    ap (map f) (reverse-append (x ∷ []) xs)
+    ∙ map-append f (reverse xs) (x ∷ [])
+    ∙ ap (λ ys. ys ++ f x ∷ []) (map-reverse f xs)
+    ∙ sym (reverse-append (f x ∷ []) (map f xs))
 
 negated-each : (items : List Ext) → map negated (map negated items) ≡ items
 negated-each [] = refl
@@ -34,7 +37,8 @@ pub length-reversed : (items : List Ext) → length (reversed_items items) ≡ l
 length-reversed items = length-reverse (map negated items) ∙ length-map items negated
 
 -- j places before the last stands place k
-pub item-reversed : (items : List Ext) (j k : ℕ) → j + k + 1 ≡ length items → item (reversed_items items) k ≡ negated (item items j)
+pub item-reversed : (items : List Ext) (j k : ℕ) → j + k + 1 ≡ length items
+    → item (reversed_items items) k ≡ negated (item items j)
 item-reversed items j k e =
     let mapped : length (map negated items) ≡ length items = length-map items negated in
     let within : k < length (map negated items) = omega arith in

@@ -7,7 +7,8 @@ use Rattle.std.proofs.lemmas.Int.{ints}
 use Rattle.theory.specs.declared.ext.Ext.{Ext}
 use Rattle.theory.specs.declared.ext.Ext.TheVariants.{MinusInf, At, PlusInf}
 use Rattle.theory.specs.Ends.{IsFinite, IsBelow}
-use Rattle.theory.specs.CurveList.{IsCurveList, item}
+use Rattle.theory.specs.Sums.{Each}
+use Rattle.theory.specs.CurveList.{IsCurveList, pieces, item}
 
 -- what may follow the slope s and the point m
 pub data Rest : ℤ → Ext → List Ext → Type 0 where
@@ -55,7 +56,10 @@ rest_by_place s (At b) (At t ∷ r ∷ rest) even places =
 inner_places : (l s m : Ext) (rest : List Ext) → IsCurveList (l ∷ s ∷ m ∷ rest) → Places (s ∷ m ∷ rest)
 inner_places l s m rest list =
     record {
-      rises = λ k h. (let fits : suc k + 2 < length (l ∷ s ∷ m ∷ rest) = omega arith in let e : suc k + 2 ≡ suc (suc (suc k)) = omega arith in rw e at (list.rises (suc k) fits));
+      rises = λ k h. (
+          let within : suc k + 2 < length (l ∷ s ∷ m ∷ rest) = omega arith in
+          let e : suc k + 2 ≡ suc (suc (suc k)) = omega arith in
+          rw e at (list.rises (suc k) within));
       finite = λ k h. list.inner_finite (suc k) (omega arith) (omega arith);
     }
 
@@ -78,24 +82,28 @@ pub rest_even : {s : ℤ} {m : Ext} {rest : List Ext} → Rest s m rest → leng
 rest_even ends = refl
 rest_even (goes_on rises below more) = omega (arith, rest_even more)
 
-rest_rises : {s : ℤ} {m : Ext} {rest : List Ext} → Rest s m rest → (k : ℕ) → k < length rest → IsBelow (item (At s ∷ m ∷ rest) k) (item rest k)
+rest_rises : {s : ℤ} {m : Ext} {rest : List Ext} → Rest s m rest → (k : ℕ) → k < length rest
+    → IsBelow (item (At s ∷ m ∷ rest) k) (item rest k)
 rest_rises ends k h = absurd (omega arith)
 rest_rises (goes_on rises below more) zero h = less_in _ _ rises
 rest_rises (goes_on rises below more) (suc zero) h = below
 rest_rises (goes_on rises below more) (suc (suc k)) h = rest_rises more k (omega arith)
 
-rest_finite : {s : ℤ} {m : Ext} {rest : List Ext} → Rest s m rest → (k : ℕ) → k ≤ length rest → IsFinite (item (At s ∷ m ∷ rest) k)
+rest_finite : {s : ℤ} {m : Ext} {rest : List Ext} → Rest s m rest → (k : ℕ) → k ≤ length rest
+    → IsFinite (item (At s ∷ m ∷ rest) k)
 rest_finite ends zero h = refl
 rest_finite ends (suc k) h = absurd (omega arith)
 rest_finite (goes_on rises below more) zero h = refl
 rest_finite (goes_on rises below more) (suc zero) h = refl
 rest_finite (goes_on rises below more) (suc (suc k)) h = rest_finite more k (omega arith)
 
-long_rises : (l m : Ext) (s : ℤ) (rest : List Ext) → IsBelow l m → Rest s m rest → (k : ℕ) → k < suc (length rest) → IsBelow (item (l ∷ At s ∷ m ∷ rest) k) (item (m ∷ rest) k)
+long_rises : (l m : Ext) (s : ℤ) (rest : List Ext) → IsBelow l m → Rest s m rest → (k : ℕ) → k < suc (length rest)
+    → IsBelow (item (l ∷ At s ∷ m ∷ rest) k) (item (m ∷ rest) k)
 long_rises l m s rest below more zero h = below
 long_rises l m s rest below more (suc k) h = rest_rises more k (omega arith)
 
-long_finite : (l m : Ext) (s : ℤ) (rest : List Ext) → Rest s m rest → (k : ℕ) → 0 < k → k + 1 < length (l ∷ At s ∷ m ∷ rest) → IsFinite (item (l ∷ At s ∷ m ∷ rest) k)
+long_finite : (l m : Ext) (s : ℤ) (rest : List Ext) → Rest s m rest → (k : ℕ) → 0 < k → k + 1 < length (l ∷ At s ∷ m ∷ rest)
+    → IsFinite (item (l ∷ At s ∷ m ∷ rest) k)
 long_finite l m s rest more zero positive h = absurd (omega arith)
 long_finite l m s rest more (suc k) positive h = rest_finite more k (omega arith)
 
@@ -114,3 +122,15 @@ place_of_shape (long {l = l} {m = m} {s = s} {rest = rest} below more) =
       inner_finite = long_finite l m s rest more;
       single_finite = λ h. absurd (omega arith);
     }
+
+-- ---- the pieces
+
+-- each piece begins below its end
+pieces_below_rest : (l : Ext) {s : ℤ} {m : Ext} {rest : List Ext} → IsBelow l m → Rest s m rest
+    → Each (λ k. IsBelow k.left k.right) (pieces (l ∷ At s ∷ m ∷ rest))
+pieces_below_rest l below ends = (below, tt)
+pieces_below_rest l below (goes_on {b = b} rises next more) = (below, pieces_below_rest (At b) next more)
+
+pub pieces_below : {items : List Ext} → Shape items → Each (λ k. IsBelow k.left k.right) (pieces items)
+pieces_below single = tt
+pieces_below (long {l = l} below more) = pieces_below_rest l below more

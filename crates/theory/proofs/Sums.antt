@@ -1,6 +1,7 @@
 -- Sums and greatest values over a list, and facts of each element.
-use Rattle.std.proofs.Common.{◌≡◌, ℕ, ℤ, pos, ◌+ℤ◌, ◌≤ℤ◌, List, [], ◌∷◌, refl, arith}
+use Rattle.std.proofs.Common.{◌≡◌, ℕ, ℤ, pos, ◌+ℤ◌, ◌≤ℤ◌, List, [], ◌∷◌, refl, ap₂, arith}
 use Rattle.std.specs.Prelude.{◌*ℤ◌}
+use Rattle.std.specs.Int.{int_max}
 use Rattle.std.proofs.lemmas.Int.{ints, clamps}
 use Rattle.theory.specs.Sums.{sum_over, greatest_over, Each}
 use Rattle.theory.proofs.Rings.{rings, int_max-scale}
@@ -21,6 +22,10 @@ pub sum_over-same : {A : Type 0} (f g : A → ℤ) (xs : List A) → ((x : A) �
 sum_over-same f g [] same = refl
 sum_over-same f g (x ∷ xs) same = let e = same x in let more = sum_over-same f g xs same in omega (arith, ints)
 
+pub sum_over-each : {A : Type 0} (P : A → Type 0) (f g : A → ℤ) (xs : List A) → Each P xs → ((x : A) → P x → f x ≡ g x) → sum_over f xs ≡ sum_over g xs
+sum_over-each P f g [] each same = refl
+sum_over-each P f g (x ∷ xs) each same = let e = same x each.0 in let more = sum_over-each P f g xs each.1 same in omega (arith, ints)
+
 pub sum_over-add : {A : Type 0} (f g h : A → ℤ) (xs : List A) → ((x : A) → f x ≡ g x +ℤ h x)
     → sum_over f xs ≡ sum_over g xs +ℤ sum_over h xs
 sum_over-add f g h [] same = refl
@@ -29,6 +34,11 @@ sum_over-add f g h (x ∷ xs) same = let e = same x in let more = sum_over-add f
 pub sum_over-scale : {A : Type 0} (c : ℤ) (f g : A → ℤ) (xs : List A) → ((x : A) → f x ≡ c *ℤ g x) → sum_over f xs ≡ c *ℤ sum_over g xs
 sum_over-scale c f g [] same = omega (arith, ints)
 sum_over-scale c f g (x ∷ xs) same = let e = same x in let more = sum_over-scale c f g xs same in omega (arith, rings)
+
+-- the order of the terms is that of the sums
+pub sum_over-order : {A : Type 0} (f g : A → ℤ) (xs : List A) → Each (λ x. f x ≤ℤ g x) xs → sum_over f xs ≤ℤ sum_over g xs
+sum_over-order f g [] each = omega (arith, ints)
+sum_over-order f g (x ∷ xs) each = let here = each.0 in let more = sum_over-order f g xs each.1 in omega (arith, ints)
 
 -- a sum of numbers that are not negative is none, and is 0 only if each is
 pub sum_positives : {A : Type 0} (f : A → ℤ) (xs : List A) → Each (λ x. pos 0 ≤ℤ f x) xs → pos 0 ≤ℤ sum_over f xs
@@ -58,6 +68,11 @@ greatest_at f (later {xs = y ∷ ys} among) = let most = greatest_at f among in 
 pub greatest_most : (f : ℤ → ℤ) (z x : ℤ) (xs : List ℤ) → Each (λ y. f y ≤ℤ z) (x ∷ xs) → greatest_over f (x ∷ xs) ≤ℤ z
 greatest_most f z x [] each = each.0
 greatest_most f z x (y ∷ ys) each = let here = each.0 in let more = greatest_most f z y ys each.1 in omega (arith, ints, clamps)
+
+pub greatest_over-same : (f g : ℤ → ℤ) (xs : List ℤ) → ((x : ℤ) → f x ≡ g x) → greatest_over f xs ≡ greatest_over g xs
+greatest_over-same f g [] same = refl
+greatest_over-same f g (x ∷ []) same = same x
+greatest_over-same f g (x ∷ y ∷ ys) same = ap₂ int_max (same x) (greatest_over-same f g (y ∷ ys) same)
 
 pub greatest_over-scale : (n : ℕ) (f g : ℤ → ℤ) (xs : List ℤ) → ((x : ℤ) → f x ≡ pos n *ℤ g x)
     → greatest_over f xs ≡ pos n *ℤ greatest_over g xs

@@ -1,10 +1,10 @@
--- What a valid certificate says: an optimum over all fractions, or that there is no feasible flow, or a feasible flow
--- and no feasible potential. So certificates of two kinds are never valid for one network.
-use Rattle.std.specs.Prelude.{◌≡◌, ℕ, ℤ, Bool, List}
-use Rattle.theory.specs.declared.network.Step.{Step}
+-- What a valid certificate says: an optimum over all fractions, or that there is no feasible flow, or a feasible flow,
+-- flows of costs below every bound, and no feasible potential. So certificates of two kinds are never valid for one network.
+use Rattle.std.specs.Prelude.{◌≡◌, ℤ, List}
 use Rattle.theory.specs.Network.{Network, IsNetwork}
 use Rattle.theory.specs.Feasible.{IsFeasibleFlow, IsFeasiblePotential}
 use Rattle.theory.specs.Best.{IsLeast, IsGreatest, FlowIsRefused, TensionIsRefused}
+use Rattle.theory.specs.NetworkLaws.{HasNoBound}
 use Rattle.theory.specs.Grounded.{Entries, IsModel, grounded}
 use Rattle.theory.specs.Certificate.{Certificate, IsValid}
 use Rattle.theory.specs.Certificate.Certificate.{optimal, cut, circuit}
@@ -18,6 +18,7 @@ pub record IsOptimum (net : Network) (x u : List ℤ) (cost value : ℤ) : Type 
 
 pub record IsUnbounded (net : Network) (x : List ℤ) : Type 0 where
   pub flow : IsFeasibleFlow 1 net x
+  pub no_bound : HasNoBound net
   pub no_potential : TensionIsRefused net
 
 abbrev pub Says : Network → Certificate → Type 0

@@ -1,12 +1,11 @@
 -- Walk, circuit, span sum. A walk is a list of steps over arcs, forward or backward. A circuit is a closed walk that
 -- begins from no node twice and passes no arc twice. The span sum of a walk is the upper span ends of its forward arcs
 -- less the lower span ends of its backward arcs (Rockafellar: the span of a path). It counts where all these ends are finite.
-use Rattle.std.specs.Prelude.{◌≡◌, ◌≢◌, ℕ, ◌+◌, ◌<◌, ◌≤◌, ℤ, pos, ◌<ℤ◌, Bool, false, if◌then◌else◌, List, length, slice_index_or}
+use Rattle.std.specs.Prelude.{◌≡◌, ◌≢◌, ℕ, ◌+◌, ◌<◌, ℤ, pos, ◌<ℤ◌, false, if◌then◌else◌, List, length, slice_index_or}
 use Rattle.theory.specs.declared.ext.Ext.{Ext}
 use Rattle.theory.specs.declared.network.Step.{Step}
 use Rattle.theory.specs.Sums.{sum_over, Each}
 use Rattle.theory.specs.Ends.{IsFinite, whole, negated}
-use Rattle.theory.specs.CurveList.{Listing}
 use Rattle.theory.specs.Span.{span_low, span_high}
 use Rattle.theory.specs.Network.{Network, tail, head, curve}
 

@@ -1,10 +1,10 @@
 -- Cut sum of a set of nodes: the upper domain ends of the arcs that leave it less the lower domain ends of the arcs
 -- that enter it (Rockafellar: the capacity of a cut). It counts where all these ends are finite.
-use Rattle.std.specs.Prelude.{ℕ, ◌<◌, ℤ, pos, ◌<ℤ◌, Bool, true, false, not, ◌&&◌, if◌then◌else◌, List, length, slice_index_or}
+use Rattle.std.specs.Prelude.{ℕ, ◌<◌, ℤ, pos, ◌<ℤ◌, Bool, false, not, ◌&&◌, if◌then◌else◌, List, length, slice_index_or}
 use Rattle.theory.specs.declared.ext.Ext.{Ext}
 use Rattle.theory.specs.declared.ext.Ext.TheVariants.{At}
 use Rattle.theory.specs.Ends.{IsFinite, whole, negated}
-use Rattle.theory.specs.CurveList.{Listing, first, last}
+use Rattle.theory.specs.CurveList.{first, last}
 use Rattle.theory.specs.Network.{Network, tail, head, curve, over_arcs}
 
 -- whether the set, one mark a node, holds node i

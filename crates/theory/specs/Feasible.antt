@@ -1,7 +1,6 @@
 -- Feasible: conserved with every flow in its domain, and 0 at the ground with every tension in its span. Both over
 -- a common denominator q.
 use Rattle.std.specs.Prelude.{◌≡◌, ℕ, ◌<◌, ℤ, pos, List, length}
-use Rattle.theory.specs.CurveList.{Listing}
 use Rattle.theory.specs.Domain.{InDomain}
 use Rattle.theory.specs.Span.{InSpan}
 use Rattle.theory.specs.Network.{Network, «at», curve}

@@ -1,9 +1,8 @@
 -- Grounded network of a model. The ground, node 0, is added; model node i becomes node i + 1. One arc a model node runs
 -- from the ground to it with the supply's curve, so that a supply is a flow, and the model's arcs follow. The potential
 -- of a node is then the tension of its ground arc. docs/FORMATS.md has the numbers and the printed names.
-use Rattle.std.specs.Prelude.{◌≢◌, ℕ, zero, suc, ◌+◌, ◌-◌, ◌<◌, nat_lt, if◌then◌else◌, List, [], ◌∷◌, ◌++◌, map, length, slice_index_or, codes, pos}
+use Rattle.std.specs.Prelude.{◌≢◌, ℕ, zero, suc, ◌+◌, ◌-◌, ◌<◌, nat_lt, if◌then◌else◌, List, [], ◌++◌, map, length, slice_index_or, codes, pos}
 use Rattle.std.specs.List.{enumerate_from}
-use Rattle.theory.specs.declared.ext.Ext.TheVariants.{At}
 use Rattle.theory.specs.declared.network.Arc.{Arc}
 use Rattle.theory.specs.CurveList.{Listing, IsCurveList}
 use Rattle.theory.specs.Network.{Network}

@@ -30,3 +30,5 @@ pub mod Tucker
 -- Laws of networks and certificates:
 pub mod NetworkLaws
 pub mod CertificateLaws
+-- Worked examples:
+pub mod Examples

@@ -1,7 +1,7 @@
--- Laws of networks: the sum law, weak duality over every denominator, and what negative cuts and circuits refuse.
-use Rattle.std.specs.Prelude.{◌≡◌, ℕ, ◌≤◌, ◌<◌, ℤ, pos, ◌*ℤ◌, ◌≤ℤ◌, Bool, List, length}
+-- Laws of networks: the sum law, weak duality over every denominator, what negative cuts and circuits refuse, and that
+-- a feasible flow with a negative circuit leaves no plan bounded.
+use Rattle.std.specs.Prelude.{◌≡◌, ℕ, ◌≤◌, ◌<◌, ℤ, pos, ◌*ℤ◌, ◌≤ℤ◌, ◌<ℤ◌, Bool, List, length}
 use Rattle.theory.specs.declared.network.Step.{Step}
-use Rattle.theory.specs.CurveList.{Listing}
 use Rattle.theory.specs.OnCurve.{IsOnCurve}
 use Rattle.theory.specs.Network.{Network, IsNetwork, «at», curve, over_arcs}
 use Rattle.theory.specs.Conserved.{IsConserved, tension}
@@ -37,3 +37,12 @@ NegativeCutLaw = (net : Network) (side : List Bool) → IsNetwork net → IsNega
 abbrev pub NegativeCircuitLaw : Type 0
 NegativeCircuitLaw = (net : Network) (walk : List Step) → IsNetwork net → WalkIsThere net walk → IsNegativeCircuit net walk
     → TensionIsRefused net
+
+-- no plan is bounded: under every bound there is the cost of a feasible flow
+abbrev pub HasNoBound : Network → Type 0
+HasNoBound net = (bound : ℤ) → (y : List ℤ) × IsFeasibleFlow 1 net y × (total_cost 1 net («at» y) <ℤ bound)
+
+-- a feasible flow with a negative circuit: no plan is bounded
+abbrev pub UnboundedLaw : Type 0
+UnboundedLaw = (net : Network) (x : List ℤ) (walk : List Step) → IsNetwork net → IsFeasibleFlow 1 net x → WalkIsThere net walk
+    → IsNegativeCircuit net walk → HasNoBound net

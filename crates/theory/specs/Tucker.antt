@@ -1,9 +1,7 @@
 -- Tucker entries of a spanning tree: how the circuit that an arc closes with the tree passes a tree arc
 -- (Rockafellar: Tucker tableau).
-use Rattle.std.specs.Prelude.{◌≡◌, ℕ, ◌+◌, ◌<◌, ◌==◌, ◌≢◌, ℤ, pos, negsuc, Bool, true, List, [], ◌∷◌, length, slice_index_or, if◌then◌else◌}
-use Rattle.theory.specs.declared.network.ArcId.{ArcId}
+use Rattle.std.specs.Prelude.{◌≡◌, ℕ, ◌+◌, ◌<◌, ◌==◌, ◌≢◌, ℤ, pos, negsuc, true, List, [], ◌∷◌, length, slice_index_or, if◌then◌else◌}
 use Rattle.theory.specs.declared.network.Step.{Step}
-use Rattle.theory.specs.CurveList.{Listing}
 use Rattle.theory.specs.Network.{Network}
 use Rattle.theory.specs.Circuit.{IsCircuit, begin_of, end_of, step}
 

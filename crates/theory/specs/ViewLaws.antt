@@ -38,6 +38,11 @@ ConjugatePairLaw = (q : ℕ) (items : List Ext) (x v : ℤ) → IsCurveList item
 abbrev pub ReversedLaw : Type 0
 ReversedLaw = (items : List Ext) → IsCurveList items → IsCurveList (reversed_items items)
 
+-- a pair of the curve, each number negated, is a pair of the reversed curve
+abbrev pub ReversedPairLaw : Type 0
+ReversedPairLaw = (q : ℕ) (items : List Ext) (x v : ℤ) → IsCurveList items → IsOnCurve q items x v
+    → IsOnCurve q (reversed_items items) (neg_ℤ x) (neg_ℤ v)
+
 abbrev pub ReversedTwiceLaw : Type 0
 ReversedTwiceLaw = (c : Listing) → reversed_of (reversed_of c) ≡ c
 

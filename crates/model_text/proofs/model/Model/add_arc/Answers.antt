@@ -1,3 +1,5 @@
+-- The name has no place among the names, so the table puts its row last. The model is well-formed with that row, and
+-- as it was where memory ran out.
 use Rattle.std.proofs.Common.{sym, ap, subst, ◌∙◌, ◌<◌, length, arith}
 use Rattle.model_text.specs.declared.model.TheConstants.{ARCS_MOST}
 use Rattle.model_text.specs.Model.{arc_names, with_arc, IsWithinLimits, IsWellFormed}

@@ -1,3 +1,5 @@
+-- The name has no place among the names, so the table puts its row last. The model is well-formed with that row, and
+-- as it was where memory ran out.
 use Rattle.std.proofs.Common.{sym, ap, subst, ◌∙◌, ◌<◌, length, arith}
 use Rattle.model_text.specs.declared.model.TheConstants.{NODES_MOST}
 use Rattle.model_text.specs.Model.{node_names, with_node, IsWithinLimits, IsWellFormed}

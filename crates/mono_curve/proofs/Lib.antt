@@ -1,0 +1,3 @@
+-- Readings by places:
+pub mod Stairs
+pub mod ReadOff

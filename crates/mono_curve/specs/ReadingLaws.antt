@@ -1,0 +1,46 @@
+-- Laws of a curve that is read at whole flows and tensions. Each holds of every curve list.
+use Rattle.std.specs.Prelude.{ℕ, ℤ, ◌≤ℤ◌, ◌<ℤ◌, ◌↔◌, List}
+use Rattle.theory.specs.declared.ext.Ext.{Ext}
+use Rattle.theory.specs.CurveList.{IsCurveList}
+use Rattle.theory.specs.Domain.{InDomain}
+use Rattle.theory.specs.Span.{InSpan}
+use Rattle.theory.specs.OnCurve.{IsOnCurve}
+use Rattle.theory.specs.Readings.{IsSlopes, IsRange, IsUnder, IsOver}
+use Rattle.theory.proofs.Pairs.{tension_of_flow, flow_of_tension}
+use Rattle.theory.proofs.Fenchel.{pairs_rise}
+
+-- a flow and a tension are a pair exactly where the tension lies between the two slopes
+abbrev pub SlopesLaw : List Ext → Type 0
+SlopesLaw items = (x v : ℤ) (low high : Ext) → IsSlopes items x low high → IsOnCurve 1 items x v ↔ (IsUnder low v × IsOver high v)
+
+-- and exactly where the flow lies between the two ends of the range
+abbrev pub RangeLaw : List Ext → Type 0
+RangeLaw items = (v x : ℤ) (low high : Ext) → IsRange items v low high → IsOnCurve 1 items x v ↔ (IsUnder low x × IsOver high x)
+
+-- of two pairs the one with the greater flow hasn't the lesser tension
+abbrev pub PairsRise : List Ext → Type 0
+PairsRise items = (q : ℕ) (x v y w : ℤ) → IsOnCurve q items x v → IsOnCurve q items y w → x <ℤ y → v ≤ℤ w
+
+-- every whole flow of the domain has a whole tension, every whole tension of the span a whole flow
+abbrev pub FlowsHaveTensions : List Ext → Type 0
+FlowsHaveTensions items = (x : ℤ) → InDomain 1 items x → (v : ℤ) × IsOnCurve 1 items x v
+
+abbrev pub TensionsHaveFlows : List Ext → Type 0
+TensionsHaveFlows items = (v : ℤ) → InSpan 1 items v → (x : ℤ) × IsOnCurve 1 items x v
+
+-- ---- they hold
+
+pub slopes_law : (items : List Ext) → SlopesLaw items
+slopes_law items x v low high slopes = slopes.pairs v
+
+pub range_law : (items : List Ext) → RangeLaw items
+range_law items v x low high range = range.pairs x
+
+pub rise_law : (items : List Ext) → IsCurveList items → PairsRise items
+rise_law items list q x v y w here there above = pairs_rise q items x v y w list here there above
+
+pub tensions_law : (items : List Ext) → IsCurveList items → FlowsHaveTensions items
+tensions_law items list x inside = tension_of_flow items x list inside
+
+pub flows_law : (items : List Ext) → IsCurveList items → TensionsHaveFlows items
+flows_law items list v inside = flow_of_tension items v list inside
