@@ -18,7 +18,8 @@ use Rattle.model_text.specs.Model.{IsWellFormed, IsWithinLimits, node_names, arc
 use Rattle.model_text.specs.Names.{is_name}
 use Rattle.model_text.specs.ModelText.{Spells, entries_of, fault_at, first_fault, line_tests, has_words, is_header, NoFaultBefore, with_line, entry_tests}
 use Rattle.model_text.specs.Printed.{printed_model, printed_node, printed_arc, printed_line, printed_curve, printed_list, printed_base, spaced}
-use Rattle.model_text.specs.ModelTextLaws.{PrintedLaw}
+use Rattle.model_text.specs.ModelTextLaws.{PrintedLaw, ReadBackLaw}
+use Rattle.model_text.proofs.TextLaws.{one_model}
 use Rattle.model_text.proofs.ListTests.{false-unless}
 use Rattle.model_text.proofs.LinesLemmas.{no-lines, here, entries-after, words-after, fault-here}
 use Rattle.model_text.proofs.PrintedCurve.{list-plain, base-plain}
@@ -318,3 +319,6 @@ printed m formed = record {
   no_fault = rw (lines-are m formed) (no-fault m formed);
   is = sym (all-made m formed) ∙ ap entries_of (sym (lines-are m formed));
 }
+
+pub read_back : ReadBackLaw
+read_back m n formed spells = one_model (printed_model m) n m spells (printed m formed)

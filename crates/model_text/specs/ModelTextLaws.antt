@@ -26,3 +26,7 @@ DecidedLaw = (text : List ℕ) → ((m : Entries) × Spells text m) ⊎ ((line :
 -- the printed form of a model spells it
 abbrev pub PrintedLaw : Type 0
 PrintedLaw = (m : Entries) → IsWellFormed m → Spells (printed_model m) m
+
+-- and what is read from it is that model again
+abbrev pub ReadBackLaw : Type 0
+ReadBackLaw = (m n : Entries) → IsWellFormed m → Spells (printed_model m) n → n ≡ m

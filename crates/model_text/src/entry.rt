@@ -24,10 +24,7 @@ pub(crate) fn read_entry(alloc: Global, model: &mut Model, words: &[&[u8]]) -> R
     if let Some(word) = model_fault(model, &line, &numbers.items) {
         return Err(Refusal::Fault(word));
     }
-    match add(alloc, model, &line, &numbers) {
-        Ok(()) => Ok(()),
-        Err(_) => Err(Refusal::NoMemory),
-    }
+    add(alloc, model, &line, &numbers).map_err(|_| Refusal::NoMemory)
 }
 
 /// The items and the base of a line.

@@ -1,5 +1,5 @@
 // Laws of the model text.
-ghost use Rattle.model_text.specs.ModelTextLaws.{OneModelLaw, SpelledOrBadLaw, OneFaultLaw, DecidedLaw, PrintedLaw};
+ghost use Rattle.model_text.specs.ModelTextLaws.{OneModelLaw, SpelledOrBadLaw, OneFaultLaw, DecidedLaw, PrintedLaw, ReadBackLaw};
 
 /// A text spells at most one model.
 pub fn one_model()
@@ -24,4 +24,9 @@ pub fn decided()
 /// The printed form of a model spells it.
 pub fn printed()
     ensures { PrintedLaw }
+{}
+
+/// What the printed form of a model spells is that model.
+pub fn read_back()
+    ensures { ReadBackLaw }
 {}
