@@ -1,7 +1,7 @@
 -- What `position` returns, in the words `before_first` and `after_first`.
-use Rattle.std.specs.Prelude.{◌≡◌, ℕ, ◌+◌, ◌-◌, ◌<◌, ◌≤◌, nat_lt, Bool, true, false, cond, refl, not, Option, None, Some, List, [], ◌∷◌, map, length, unwrap_or}
+use Rattle.std.specs.Prelude.{◌≡◌, ℕ, ◌+◌, ◌<◌, ◌≤◌, nat_lt, Bool, true, false, cond, refl, not, Option, None, Some, List, [], ◌∷◌, map, length, unwrap_or}
 use Rattle.std.specs.List.{position_or_len, prefix_len}
-use Rattle.std.proofs.Common.{arith, ap, rules}
+use Rattle.std.proofs.Common.{arith, ap}
 use Rattle.std.proofs.lemmas.List.Sums.{prefix_len-le-length}
 use borrow.Author.Tests.{tests}
 

@@ -1,8 +1,7 @@
 -- The parts of a line: its keyword, its names, its list, and what stands from `base` on.
-use Rattle.std.specs.Prelude.{◌≡◌, ℕ, ◌-◌, ◌<◌, min, Bool, true, false, not, ◌&&◌, ◌||◌, ◌≤◌, nat_lt, is_none, unwrap_or, pos, if◌then◌else◌, Option, None, Some, List, [], ◌∷◌, length, take, drop, map, codes, refl}
+use Rattle.std.specs.Prelude.{◌≡◌, ℕ, ◌-◌, ◌<◌, min, Bool, true, false, not, ◌||◌, ◌≤◌, nat_lt, is_none, unwrap_or, pos, if◌then◌else◌, Option, None, Some, List, [], ◌∷◌, length, take, drop, map, codes, refl}
 use Rattle.std.specs.Borrow.{Bor}
 use Rattle.std.specs.List.{position_or_len, list_all, list_any}
-use Rattle.std.specs.Option.{option_map}
 use Rattle.std.specs.Str.{bytes_eq}
 use Rattle.std.proofs.Common.{arith, sym, ◌∙◌, ap, get_or}
 use Rattle.std.proofs.lemmas.List.{take_min, drop_min, take_rest, take-map, drop-map, length-map}
@@ -13,7 +12,7 @@ use Rattle.model_text.specs.declared.line.Kind.TheVariants.{Node, Arc}
 use Rattle.model_text.specs.ModelText.{is_node_line, is_arc_line, is_base_word, line_names, list_words, base_words, names_wanted, body, list_count, lacks_names, lacks_numbers, is_no_base, line_items, line_base}
 use Rattle.model_text.specs.Names.{is_name}
 use Rattle.model_text.specs.NumberWords.{item_of, number_of}
-use Rattle.model_text.specs.NearNumbers.{near_item, near_number}
+use Rattle.model_text.specs.NearNumbers.{near_item}
 use Rattle.theory.specs.declared.ext.Ext.TheVariants.{MinusInf}
 use Rattle.model_text.specs.LineParts.{texts, is_node, keyword_kind, AreParts}
 

@@ -1,28 +1,24 @@
 -- The words of a printed curve read back as the curve, and pass the tests of a list.
-use Rattle.std.specs.Prelude.{◌≡◌, ℕ, zero, suc, ◌+◌, ◌-◌, ◌%◌, ◌<◌, ◌≤◌, ◌==◌, nat_lt, ℤ, pos, negsuc, Bool, true, false, not, ◌&&◌, ◌||◌, if◌then◌else◌, Option, None, Some, is_none, unwrap_or, unsigned_abs, List, [], ◌∷◌, ◌++◌, length, map, take, drop, codes, refl}
+use Rattle.std.specs.Prelude.{◌≡◌, ℕ, zero, suc, ◌+◌, ◌-◌, ◌<◌, ◌==◌, nat_lt, ℤ, pos, Bool, true, false, not, ◌&&◌, ◌||◌, if◌then◌else◌, is_none, unwrap_or, List, [], ◌∷◌, ◌++◌, length, map, take, drop, codes, refl}
 use Rattle.std.specs.List.{list_any, zip, position_or_len}
 use Rattle.std.specs.Ordering.{int_eq}
-use Rattle.std.proofs.Common.{arith, ◌∙◌, sym, ap, get_or, take-append-drop, length-take, length-drop}
+use Rattle.std.proofs.Common.{arith, ◌∙◌, sym, ap, get_or, length-take, length-drop}
 use Rattle.std.proofs.lemmas.Bool.Decides.{nat_tests, Decides-int_eq}
-use Rattle.std.proofs.lemmas.Int.{ints}
-use Rattle.std.proofs.lemmas.List.{take_at, length-map, get_or-take, get_or-drop}
+use Rattle.std.proofs.lemmas.List.{get_or-take, get_or-drop}
 use Rattle.std.proofs.lemmas.Grind.{get_or_after_one}
 use Rattle.std.proofs.lemmas.Slice.Zip.{get_or-zip, length-zip}
-use Rattle.std.proofs.Math.Seq.{drop-append_seam}
 use Rattle.theory.specs.Certificate.{IsWithin}
-use Rattle.theory.specs.CurveList.{IsCurveList, Listing, item}
+use Rattle.theory.specs.CurveList.{IsCurveList, item}
 use Rattle.theory.specs.Ends.{whole, is_finite, is_below, IsFinite, IsBelow}
 use Rattle.theory.specs.Limits.{AreWithin, number_most}
 use Rattle.theory.specs.declared.ext.Ext.{Ext}
 use Rattle.theory.specs.declared.ext.Ext.TheVariants.{MinusInf, At, PlusInf}
-use Rattle.model_text.specs.declared.model.TheConstants.{LIST_MOST}
-use Rattle.model_text.specs.Model.{IsWithinLimits}
 use Rattle.model_text.specs.ModelText.{is_base_word, is_over, are_over, is_no_base, is_misplaced, is_minus_inf, is_plus_inf, has_fall, word_at}
 use Rattle.model_text.specs.NumberWords.{number_of, item_of}
-use Rattle.model_text.specs.Printed.{printed_number, printed_end, printed_list, printed_base, printed_curve}
-use Rattle.model_text.proofs.ListTests.{none-by, false-unless}
-use Rattle.model_text.proofs.PrintedWords.{IsPlain, item-read, item-plain, item-no-base, number-read, number-plain, small-by}
-use Rattle.model_text.proofs.PrintedLines.{ArePlain, no_more, one_more, plain-append}
+use Rattle.model_text.specs.Printed.{printed_number, printed_list, printed_base}
+use Rattle.model_text.proofs.ListTests.{none-by}
+use Rattle.model_text.proofs.PrintedWords.{item-read, item-plain, item-no-base, number-read, number-plain, small-by}
+use Rattle.model_text.proofs.PrintedLines.{ArePlain, no_more, one_more}
 
 -- ---- the list
 

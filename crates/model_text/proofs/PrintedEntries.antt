@@ -1,17 +1,17 @@
 -- A printed line adds the node or the arc that it was printed for, and passes the tests in a model that has room for it.
-use Rattle.std.specs.Prelude.{◌≡◌, ◌≢◌, ℕ, zero, suc, ◌+◌, ◌-◌, ◌%◌, ◌<◌, ◌≤◌, ◌==◌, nat_lt, nat_le, Bool, true, false, not, ◌&&◌, ◌||◌, if◌then◌else◌, Option, None, Some, is_some, is_none, unwrap_or, pos, List, [], ◌∷◌, ◌++◌, length, map, take, drop, codes, refl}
-use Rattle.std.specs.List.{list_all, list_any, position_or_len}
+use Rattle.std.specs.Prelude.{◌≡◌, ℕ, ◌%◌, ◌<◌, ◌==◌, nat_lt, nat_le, true, false, None, Some, unwrap_or, pos, List, ◌∷◌, length, map, codes, refl}
+use Rattle.std.specs.List.{position_or_len}
 use Rattle.std.specs.Str.{bytes_eq}
-use Rattle.std.proofs.Common.{arith, ◌∙◌, sym, ap, get_or}
+use Rattle.std.proofs.Common.{arith, ◌∙◌, ap}
 use Rattle.std.proofs.lemmas.Bool.Decides.{nat_tests}
 use Rattle.std.proofs.lemmas.List.{take_at, length-map}
 use Rattle.std.proofs.Math.Seq.{drop-append_seam}
 use Rattle.theory.specs.CurveList.{IsCurveList, Listing}
-use Rattle.theory.specs.Grounded.{Entries, NodeEntry, ArcEntry}
+use Rattle.theory.specs.Grounded.{Entries, NodeEntry}
 use Rattle.model_text.specs.declared.model.TheConstants.{NODES_MOST, ARCS_MOST, LIST_MOST}
-use Rattle.model_text.specs.Model.{IsWithinLimits, node_names, arc_names, place_of, with_node, with_arc, node_at}
+use Rattle.model_text.specs.Model.{IsWithinLimits, node_names, arc_names, place_of, with_node, with_arc}
 use Rattle.model_text.specs.Names.{is_name}
-use Rattle.model_text.specs.ModelText.{first_fault, entry_tests, with_line, line_listing, line_items, line_base, list_words, base_words, list_count, body, line_names, is_node_line, is_arc_line, lacks_names, lacks_numbers, is_beyond, is_full, is_misshapen, has_fall, is_twice, is_unknown, is_loop, node_place, is_base_word, word_at}
+use Rattle.model_text.specs.ModelText.{first_fault, entry_tests, with_line, line_listing, line_items, line_base, list_words, base_words, list_count, body, line_names, is_node_line, is_arc_line, lacks_names, lacks_numbers, is_beyond, is_full, is_misshapen, has_fall, is_twice, is_unknown, is_loop, is_base_word, word_at}
 use Rattle.model_text.specs.NumberWords.{item_of, number_of}
 use Rattle.theory.specs.declared.ext.Ext.TheVariants.{MinusInf}
 use Rattle.model_text.specs.Printed.{printed_list, printed_base, printed_curve, printed_end}

@@ -1,16 +1,16 @@
 -- A printed line: no byte of it ends or cuts it before its own end, and its words are those that were printed.
-use Rattle.std.specs.Prelude.{◌≡◌, ℕ, zero, suc, ◌+◌, ◌-◌, ◌<◌, ◌≤◌, ◌==◌, nat_lt, nat_le, Bool, true, false, not, ◌&&◌, ◌||◌, if◌then◌else◌, List, [], ◌∷◌, ◌++◌, length, map, take, drop, codes, refl, All}
-use Rattle.std.specs.List.{list_all, list_any, filter, flat_map, slice_split, position_or_len, before_first}
+use Rattle.std.specs.Prelude.{◌≡◌, ℕ, suc, ◌-◌, ◌<◌, ◌==◌, nat_lt, nat_le, Bool, true, false, not, ◌&&◌, List, [], ◌∷◌, ◌++◌, length, map, refl, All}
+use Rattle.std.specs.List.{list_all, filter, flat_map, slice_split, position_or_len, before_first}
 use Rattle.std.specs.Str.{is_utf8}
 use Rattle.std.specs.Str.Lines.{strip_carriage_return}
-use Rattle.std.proofs.Common.{arith, ◌∙◌, sym, ap, get_or, append_assoc}
+use Rattle.std.proofs.Common.{arith, ◌∙◌, ap, get_or, append_assoc}
 use Rattle.std.proofs.lemmas.Bool.Decides.{nat_tests}
 use Rattle.std.proofs.lemmas.List.{take_all, append-nil}
 use Rattle.std.proofs.lemmas.List.Splits.{slice_split_at, slice_split_none, length-slice_split}
 use Rattle.std.proofs.lemmas.Str.{is_utf8-from_IsUtf8, IsUtf8-from_ascii}
 use Rattle.std.proofs.lemmas.Str.Ascii.{IsAscii-from_all}
 use Rattle.model_text.specs.Lines.{text_lines, without_empty_end, content, line_words, is_blank}
-use Rattle.model_text.specs.Printed.{spaced, printed_line}
+use Rattle.model_text.specs.Printed.{spaced}
 use Rattle.model_text.proofs.LinesLemmas.{end-more}
 use Rattle.model_text.proofs.PrintedWords.{IsPlain, is_plain, all-so}
 use Rattle.model_text.proofs.SoundLines.{both, all-at}

@@ -1,31 +1,31 @@
 -- The printed form of a well-formed model spells it. Its lines are the header, a line per node and a line per arc; by
 -- induction on the place of a line, the lines before it have made the model's entries before that place, and none has a
 -- fault: a name differs from those before it, an arc's ends stand at their places, and every list is a curve list.
-use Rattle.std.specs.Prelude.{◌≡◌, ◌≢◌, ℕ, zero, suc, ◌+◌, ◌-◌, ◌<◌, ◌≤◌, nat_lt, Bool, true, false, cond, not, ◌||◌, pos, Option, None, Some, List, [], ◌∷◌, ◌++◌, length, map, take, drop, codes, refl, All}
-use Rattle.std.specs.List.{list_all, list_any, flat_map, position_or_len, fold}
-use Rattle.std.specs.Str.{bytes_eq, is_utf8}
-use Rattle.std.proofs.Common.{arith, ◌∙◌, sym, ap, get_or, append_assoc, length-append, add-one}
+use Rattle.std.specs.Prelude.{◌≡◌, ◌≢◌, ℕ, zero, suc, ◌+◌, ◌-◌, ◌<◌, ◌≤◌, nat_lt, Bool, true, false, pos, None, Some, List, [], ◌∷◌, ◌++◌, length, map, take, drop, codes, refl}
+use Rattle.std.specs.List.{list_all, list_any, flat_map, position_or_len}
+use Rattle.std.specs.Str.{bytes_eq}
+use Rattle.std.proofs.Common.{arith, ◌∙◌, sym, ap, get_or, length-append, add-one}
 use Rattle.std.proofs.lemmas.Bool.Decides.{nat_tests}
 use Rattle.std.proofs.lemmas.Grind.{take_at_read}
 use Rattle.std.proofs.lemmas.List.{append-nil, length-map, length-take, get_or-map, get_or-take, get_or-append-add, take_all, drop_more}
 use Rattle.std.proofs.Math.ListN.{get_or-append}
 use Rattle.std.proofs.lemmas.List.Sums.{position_or_len_is}
 use Rattle.std.proofs.lemmas.Slice.Eq.{bytes_eq-Decides}
-use Rattle.theory.specs.CurveList.{IsCurveList, Listing}
+use Rattle.theory.specs.CurveList.{Listing}
 use Rattle.theory.specs.Grounded.{Entries, NodeEntry, ArcEntry}
 use Rattle.model_text.specs.Lines.{text_lines, line_words, content}
-use Rattle.model_text.specs.Model.{IsWellFormed, IsWithinLimits, node_names, arc_names, place_of, node_at, arc_at, no_entries, with_node, with_arc}
+use Rattle.model_text.specs.Model.{IsWellFormed, IsWithinLimits, node_names, place_of, node_at, arc_at, no_entries}
 use Rattle.model_text.specs.Names.{is_name}
-use Rattle.model_text.specs.ModelText.{Spells, entries_of, fault_at, first_fault, line_tests, has_words, is_header, NoFaultBefore, with_line, entry_tests}
-use Rattle.model_text.specs.Printed.{printed_model, printed_node, printed_arc, printed_line, printed_curve, printed_list, printed_base, spaced}
+use Rattle.model_text.specs.ModelText.{entries_of, fault_at, first_fault, has_words, is_header, NoFaultBefore, with_line, entry_tests}
+use Rattle.model_text.specs.Printed.{printed_model, printed_node, printed_arc, printed_curve, spaced}
 use Rattle.model_text.specs.ModelTextLaws.{PrintedLaw, ReadBackLaw}
 use Rattle.model_text.proofs.TextLaws.{one_model}
 use Rattle.model_text.proofs.ListTests.{false-unless}
-use Rattle.model_text.proofs.LinesLemmas.{no-lines, here, entries-after, words-after, fault-here}
+use Rattle.model_text.proofs.LinesLemmas.{no-lines, entries-after, fault-here}
 use Rattle.model_text.proofs.PrintedCurve.{list-plain, base-plain}
 use Rattle.model_text.proofs.PrintedEntries.{node_words, arc_words, node-adds, node-passes, arc-adds, arc-passes}
-use Rattle.model_text.proofs.PrintedLines.{ArePlain, no_more, one_more, plain-append, is_clean, line-clean, clean-text, lines-more, line-more, printed-words}
-use Rattle.model_text.proofs.PrintedWords.{IsPlain, name-plain}
+use Rattle.model_text.proofs.PrintedLines.{ArePlain, one_more, plain-append, is_clean, line-clean, clean-text, lines-more, line-more, printed-words}
+use Rattle.model_text.proofs.PrintedWords.{name-plain}
 use Rattle.model_text.proofs.ReadLemmas.{begins, goes_on, header_adds, some-words}
 
 -- ---- names and their places

@@ -1,13 +1,12 @@
 -- Printed words: their bytes stand between `#` and the end of ASCII, so that no line is cut inside one, and they read back.
-use Rattle.std.specs.Prelude.{◌≡◌, ◌≢◌, ℕ, zero, suc, ◌+◌, ◌-◌, ◌<◌, ◌≤◌, ◌^◌, ◌==◌, nat_lt, nat_le, min, ℤ, pos, negsuc, neg_ℤ, Bool, true, false, not, ◌&&◌, ◌||◌, if◌then◌else◌, Option, None, Some, unwrap_or, unsigned_abs, List, [], ◌∷◌, ◌++◌, length, map, take, drop, codes, refl}
+use Rattle.std.specs.Prelude.{◌≡◌, ℕ, suc, ◌<◌, ◌≤◌, ◌^◌, ◌==◌, nat_lt, nat_le, ℤ, pos, negsuc, neg_ℤ, Bool, true, false, ◌&&◌, Some, unsigned_abs, List, [], ◌∷◌, length, codes, refl}
 use Rattle.std.specs.Char.{is_ascii_digit}
 use Rattle.std.specs.Fmt.{decimal}
-use Rattle.std.specs.List.{list_all, position_or_len}
+use Rattle.std.specs.List.{list_all}
 use Rattle.std.specs.Option.{option_map}
-use Rattle.std.specs.Ordering.{int_eq}
 use Rattle.std.specs.Str.{all_ascii_digits, bytes_eq}
 use Rattle.std.specs.Str.Parse.{digits_value}
-use Rattle.std.proofs.Common.{arith, ◌∙◌, sym, ap, lit<}
+use Rattle.std.proofs.Common.{arith, ap}
 use Rattle.std.proofs.lemmas.Bool.Decides.{nat_tests}
 use Rattle.std.proofs.lemmas.Fmt.{digits_decimal, digits_value-decimal, decimal_nonempty}
 use Rattle.std.proofs.lemmas.Int.{ints}
@@ -17,7 +16,7 @@ use Rattle.theory.specs.Ends.{whole}
 use Rattle.theory.specs.Limits.{number_most}
 use Rattle.theory.specs.declared.ext.Ext.{Ext}
 use Rattle.theory.specs.declared.ext.Ext.TheVariants.{MinusInf, At, PlusInf}
-use Rattle.model_text.specs.ModelText.{is_base_word, is_over}
+use Rattle.model_text.specs.ModelText.{is_base_word}
 use Rattle.model_text.specs.Names.{is_name, is_name_byte}
 use Rattle.model_text.specs.NumberWords.{digits_of, number_of, item_of}
 use Rattle.model_text.specs.Printed.{printed_number, printed_end}

@@ -1,8 +1,8 @@
 -- What a line that passes the tests may add to the model: its names are names, and the model has room for it.
-use Rattle.std.specs.Prelude.{◌≡◌, ◌≢◌, ℕ, zero, suc, ◌+◌, ◌<◌, ◌==◌, nat_lt, nat_le, Bool, true, false, not, ◌||◌, ◌&&◌, if◌then◌else◌, Option, None, Some, is_some, unwrap_or, List, [], ◌∷◌, length, take, drop, refl}
+use Rattle.std.specs.Prelude.{◌≡◌, ℕ, zero, suc, ◌<◌, ◌==◌, nat_lt, nat_le, Bool, true, false, not, ◌&&◌, if◌then◌else◌, Option, None, Some, is_some, List, [], ◌∷◌, length, take, drop, refl}
 use Rattle.std.specs.List.{list_all}
 use Rattle.std.specs.Str.{bytes_eq}
-use Rattle.std.proofs.Common.{arith, get_or, ◌∙◌, sym, ap, length-take, length-drop}
+use Rattle.std.proofs.Common.{arith, get_or, ◌∙◌, sym, ap}
 use Rattle.std.proofs.lemmas.Bool.Decides.{nat_tests}
 use Rattle.std.proofs.lemmas.Bool.{eqb-true}
 use Rattle.std.proofs.lemmas.List.{get_or-take}
@@ -14,7 +14,7 @@ use Rattle.model_text.specs.declared.fault.FaultWord.{FaultWord}
 use Rattle.model_text.specs.declared.model.TheConstants.{NODES_MOST, ARCS_MOST}
 use Rattle.model_text.specs.Model.{node_names, arc_names, place_of, node_fault, arc_fault, with_node, with_arc}
 use Rattle.model_text.specs.Names.{is_name}
-use Rattle.model_text.specs.ModelText.{first_fault, word_at, names_wanted, is_node_line, is_arc_line, line_names, line_items, line_listing, lacks_names, lacks_numbers, is_beyond, is_full, is_misshapen, has_fall, is_twice, is_unknown, is_loop, with_line, node_place}
+use Rattle.model_text.specs.ModelText.{first_fault, word_at, names_wanted, is_node_line, is_arc_line, line_names, line_items, line_listing, lacks_names, lacks_numbers, is_beyond, is_full, is_misshapen, has_fall, is_twice, is_unknown, is_loop, with_line}
 use Rattle.model_text.specs.LineParts.{number_tests, model_tests}
 use Rattle.model_text.proofs.FirstPlace.{found}
 use Rattle.model_text.proofs.ListTests.{neither, false-unless}

@@ -13,7 +13,6 @@ use Rattle.theory.specs.Certificate.{IsWithin}
 use Rattle.theory.specs.CurveList.{IsCurveList, item}
 use Rattle.theory.specs.Ends.{IsFinite, IsBelow, is_finite, is_below, whole}
 use Rattle.theory.specs.Limits.{number_most, base_most, AreWithin}
-use Rattle.mono_curve.specs.CurveValue.{IsValidCurve}
 use Rattle.mono_curve.specs.Faults.{may_stand, IsPlaced, Rises, IsFault}
 use Rattle.mono_curve.specs.declared.fault.CurveFault.{CurveFault}
 use Rattle.mono_curve.specs.declared.fault.CurveFault.TheVariants.{Even, Long, Infinite, Magnitude, Order, NoMemory}

@@ -1,6 +1,6 @@
 -- The model text: which text spells which model, and where it spells none, the first bad line and its first word.
 -- The tests of a line are a table; a line is tested against the model that the lines before it have made.
-use Rattle.std.specs.Prelude.{◌≡◌, ◌≢◌, ℕ, ◌+◌, ◌-◌, ◌%◌, ◌<◌, ◌==◌, nat_lt, nat_le, ℤ, pos, Bool, true, false, not, ◌&&◌, ◌||◌, if◌then◌else◌, Option, None, Some, is_some, is_none, unwrap_or, unsigned_abs, List, [], ◌∷◌, ◌++◌, length, take, drop, map, slice_index_or, codes, IsTrue}
+use Rattle.std.specs.Prelude.{◌≡◌, ℕ, ◌+◌, ◌-◌, ◌%◌, ◌<◌, ◌==◌, nat_lt, nat_le, ℤ, pos, Bool, true, false, not, ◌&&◌, ◌||◌, if◌then◌else◌, Option, None, Some, is_some, is_none, unwrap_or, unsigned_abs, List, [], ◌∷◌, length, take, drop, map, slice_index_or, codes, IsTrue}
 use Rattle.std.specs.List.{list_any, list_all, fold, position_or_len, zip}
 use Rattle.std.specs.Str.{bytes_eq, is_utf8}
 use Rattle.theory.specs.declared.ext.Ext.{Ext}

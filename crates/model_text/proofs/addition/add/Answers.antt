@@ -1,8 +1,8 @@
-use Rattle.std.proofs.Common.{◌≡◌, rules, sym, ◌∙◌, ap, true, false, is_some, Some}
+use Rattle.std.proofs.Common.{◌≡◌, rules, sym, ◌∙◌, Some}
 use Rattle.model_text.specs.Model.{node_names, place_of}
 use Rattle.model_text.specs.ModelText.{word_at}
 use Rattle.model_text.specs.LineParts.{texts}
-use Rattle.model_text.proofs.SoundLines.{passes_alone, passes_together, node_free, arc_free, tail_known, adds_node, adds_arc}
+use Rattle.model_text.proofs.SoundLines.{passes_together, node_free, arc_free, tail_known, adds_node, adds_arc}
 use Rattle.model_text.proofs.addition.add.Goals as goal
 
 pub add_node-requires-clause-room : goal.add_node-requires-clause-room

@@ -1,10 +1,7 @@
-use Rattle.std.proofs.Common.{◌≡◌, ◌≤◌, rules, sym, ◌∙◌, ap, length}
-use Rattle.theory.specs.Certificate.{IsWithin}
-use Rattle.theory.specs.Limits.{number_most}
+use Rattle.std.proofs.Common.{◌≡◌, rules, sym, ◌∙◌, ap}
 use Rattle.mono_curve.specs.Faults.{IsFault}
-use Rattle.model_text.specs.declared.model.TheConstants.{LIST_MOST}
 use Rattle.model_text.specs.LineParts.{texts}
-use Rattle.model_text.specs.ModelText.{line_items, line_base, line_listing}
+use Rattle.model_text.specs.ModelText.{line_base, line_listing}
 use Rattle.model_text.proofs.SoundLists.{only_memory, sound-line, sound-base, filled, listing-is}
 use Rattle.model_text.proofs.addition.curve_of.Goals as goal
 

@@ -1,4 +1,4 @@
-use Rattle.std.proofs.Common.{rules, ◌≡◌, ◌==◌, ◌+◌, arith, sym, ◌∙◌, ap, take, drop, length}
+use Rattle.std.proofs.Common.{rules, ◌≡◌, ◌==◌, ◌+◌, arith, sym, ◌∙◌, ap, take, drop}
 use borrow.Author.Tests.{tests}
 use Rattle.std.proofs.lemmas.List.{take_rest, take_all, drop_all}
 use Rattle.std.proofs.lemmas.Iterator.{YieldsList-from_slice}

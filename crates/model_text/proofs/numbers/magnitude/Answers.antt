@@ -1,5 +1,5 @@
-use Rattle.std.proofs.Common.{arith, sym, ◌∙◌, ◌≡◌, true, ap}
-use Rattle.model_text.proofs.NearLemmas.{near-step, digits-drop, near_after}
+use Rattle.std.proofs.Common.{arith, sym, ◌∙◌}
+use Rattle.model_text.proofs.NearLemmas.{near-step, digits-drop}
 use Rattle.model_text.proofs.numbers.magnitude.Goals as goal
 
 pub loop-digit-preserved : goal.loop-digit-preserved

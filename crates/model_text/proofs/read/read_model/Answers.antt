@@ -1,4 +1,4 @@
-use Rattle.std.proofs.Common.{◌≡◌, ◌||◌, ◌+◌, ◌<◌, ◌==◌, arith, rules, sym, ◌∙◌, ap, refl, length, List, [], ◌∷◌, true, false, below_more, length-drop}
+use Rattle.std.proofs.Common.{◌≡◌, ◌||◌, ◌+◌, ◌<◌, ◌==◌, arith, sym, ◌∙◌, ap, refl, length, [], ◌∷◌, below_more, length-drop}
 use Rattle.std.specs.List.{before_first, after_first, list_any, position_or_len}
 use Rattle.std.proofs.lemmas.Bool.Decides.{nat_tests}
 use Rattle.std.proofs.lemmas.List.{drop_all}

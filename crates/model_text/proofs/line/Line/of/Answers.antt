@@ -1,4 +1,4 @@
-use Rattle.std.proofs.Common.{rules, arith, sym, ◌∙◌, ap, refl, take, drop, length, ◌-◌}
+use Rattle.std.proofs.Common.{arith, sym, ◌∙◌, ap, refl, take, drop, length, ◌-◌}
 use Rattle.model_text.proofs.LineLemmas.{no_words, no_keyword, parts}
 use Rattle.model_text.proofs.line.Line.of.Goals as goal
 
