@@ -1,15 +1,14 @@
 -- Numbers beyond the limit: what the reader keeps of them shows that they are, and the others are kept as they are.
-use Rattle.std.specs.Prelude.{◌≡◌, ℕ, zero, suc, ◌+◌, ◌≤◌, min, nat_lt, ℤ, pos, negsuc, neg_ℤ, Bool, true, false, ◌||◌, unsigned_abs, List, [], ◌∷◌, length, map, refl}
+use Rattle.std.specs.Prelude.{◌≡◌, ℕ, zero, suc, ◌+◌, min, nat_lt, ℤ, pos, negsuc, neg_ℤ, true, false, ◌||◌, List, [], ◌∷◌, length, map, refl}
 use Rattle.std.proofs.Common.{arith, sym, ◌∙◌, ap}
 use Rattle.std.proofs.lemmas.Bool.Decides.{nat_tests}
 use Rattle.theory.specs.declared.ext.Ext.{Ext}
 use Rattle.theory.specs.declared.ext.Ext.TheVariants.{MinusInf, At, PlusInf}
-use Rattle.theory.specs.Ends.{whole}
 use Rattle.theory.specs.Limits.{number_most}
 use Rattle.model_text.proofs.ListTests.{neither}
 use Rattle.model_text.specs.declared.model.TheConstants.{LIST_MOST}
 use Rattle.model_text.specs.ModelText.{is_over, are_over, is_beyond, list_words, line_items, line_base}
-use Rattle.model_text.specs.NearNumbers.{near_digits, near_number, near_item}
+use Rattle.model_text.specs.NearNumbers.{near_number, near_item}
 
 over-neg : (m : ℕ) → is_over (neg_ℤ (pos m)) ≡ nat_lt number_most m
 over-neg zero = refl

@@ -1,7 +1,7 @@
 -- What `position` returns, in the words `before_first` and `after_first`.
-use Rattle.std.specs.Prelude.{◌≡◌, ℕ, ◌+◌, ◌-◌, ◌<◌, ◌≤◌, nat_lt, Bool, true, false, cond, refl, not, Option, None, Some, List, [], ◌∷◌, map, length, unwrap_or}
+use Rattle.std.specs.Prelude.{◌≡◌, ℕ, ◌+◌, ◌<◌, ◌≤◌, nat_lt, Bool, true, false, cond, refl, not, Option, None, Some, List, [], ◌∷◌, map, length, unwrap_or}
 use Rattle.std.specs.List.{position_or_len, prefix_len}
-use Rattle.std.proofs.Common.{arith, ap, rules}
+use Rattle.std.proofs.Common.{arith, ap}
 use Rattle.std.proofs.lemmas.List.Sums.{prefix_len-le-length}
 use borrow.Author.Tests.{tests}
 
@@ -17,8 +17,8 @@ pub absent : {X : Type 0} (p : X → Bool) (xs : List X) → ◌≡◌ {A = Opti
 absent p xs is =
     let most : position_or_len p xs ≤ length xs = prefix_len-le-length (λ x. not (p x)) xs in
     let short : nat_lt (position_or_len p xs) (length xs) ≡ false =
-        elim (nat_lt (position_or_len p xs) (length xs)) as (λ b. ◌≡◌ {A = Option ℕ} None (cond b (Some (position_or_len p xs)) None) → b ≡ false)
-            [ true ↦ λ e. cc | false ↦ λ e. refl ] is in
+    elim (nat_lt (position_or_len p xs) (length xs)) as (λ b. ◌≡◌ {A = Option ℕ} None (cond b (Some (position_or_len p xs)) None) → b ≡ false)
+    [ true ↦ λ e. cc | false ↦ λ e. refl ] is in
     grind (arith, tests)
 
 pub or_length : {X : Type 0} (p : X → Bool) (xs : List X) → unwrap_or (first_place p xs) (length xs) ≡ position_or_len p xs

@@ -1,8 +1,7 @@
 -- The parts of a line: its keyword, its names, its list, and what stands from `base` on.
-use Rattle.std.specs.Prelude.{◌≡◌, ℕ, ◌-◌, ◌<◌, min, Bool, true, false, not, ◌&&◌, ◌||◌, ◌≤◌, nat_lt, is_none, unwrap_or, pos, if◌then◌else◌, Option, None, Some, List, [], ◌∷◌, length, take, drop, map, codes, refl}
+use Rattle.std.specs.Prelude.{◌≡◌, ℕ, ◌-◌, ◌<◌, min, Bool, true, false, not, ◌||◌, ◌≤◌, nat_lt, is_none, unwrap_or, pos, if◌then◌else◌, Option, None, Some, List, [], ◌∷◌, length, take, drop, map, codes, refl}
 use Rattle.std.specs.Borrow.{Bor}
 use Rattle.std.specs.List.{position_or_len, list_all, list_any}
-use Rattle.std.specs.Option.{option_map}
 use Rattle.std.specs.Str.{bytes_eq}
 use Rattle.std.proofs.Common.{arith, sym, ◌∙◌, ap, get_or}
 use Rattle.std.proofs.lemmas.List.{take_min, drop_min, take_rest, take-map, drop-map, length-map}
@@ -13,7 +12,7 @@ use Rattle.model_text.specs.declared.line.Kind.TheVariants.{Node, Arc}
 use Rattle.model_text.specs.ModelText.{is_node_line, is_arc_line, is_base_word, line_names, list_words, base_words, names_wanted, body, list_count, lacks_names, lacks_numbers, is_no_base, line_items, line_base}
 use Rattle.model_text.specs.Names.{is_name}
 use Rattle.model_text.specs.NumberWords.{item_of, number_of}
-use Rattle.model_text.specs.NearNumbers.{near_item, near_number}
+use Rattle.model_text.specs.NearNumbers.{near_item}
 use Rattle.theory.specs.declared.ext.Ext.TheVariants.{MinusInf}
 use Rattle.model_text.specs.LineParts.{texts, is_node, keyword_kind, AreParts}
 
@@ -75,8 +74,8 @@ parts words d kind wanted count rest names after list base some is rest-is wante
     let rests : rest ≡ drop 1 words = rest-is ∙ take_rest words 1 in
     let wants : wanted ≡ names_wanted (texts words) = wanted-is ∙ ap (λ b. if b then 1 else 3) (sym kinds.0) in
     let bodies : texts after ≡ body (texts words) =
-        ap texts (after-is ∙ drop_min wanted rest ∙ ap (drop wanted) rests) ∙ drop-texts wanted (drop 1 words)
-        ∙ ap (drop wanted) (drop-texts 1 words) ∙ ap (λ n. drop n (drop 1 (texts words))) wants in
+    ap texts (after-is ∙ drop_min wanted rest ∙ ap (drop wanted) rests) ∙ drop-texts wanted (drop 1 words)
+    ∙ ap (drop wanted) (drop-texts 1 words) ∙ ap (λ n. drop n (drop 1 (texts words))) wants in
     let counts : count ≡ list_count (texts words) = count-is ∙ ap (position_or_len is_base_word) bodies in
     record {
       node = kinds.0;
@@ -85,7 +84,8 @@ parts words d kind wanted count rest names after list base some is rest-is wante
           ap texts (names-is ∙ take_min wanted rest ∙ ap (take wanted) rests) ∙ take-texts wanted (drop 1 words)
           ∙ ap (take wanted) (drop-texts 1 words) ∙ ap (λ n. take n (drop 1 (texts words))) wants;
       list = ap texts list-is ∙ take-texts count after ∙ rw (counts, bodies) refl;
-      base = ap texts base-is ∙ drop-texts count after ∙ rw (counts, bodies) refl }
+      base = ap texts base-is ∙ drop-texts count after ∙ rw (counts, bodies) refl;
+    }
 
 -- ---- the tests of a line, on its parts
 

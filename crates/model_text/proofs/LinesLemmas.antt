@@ -1,5 +1,5 @@
 -- Lines one by one: a text that isn't empty has the line up to its first LF, and then the lines of what follows.
-use Rattle.std.specs.Prelude.{◌≡◌, ℕ, zero, suc, ◌+◌, ◌-◌, ◌<◌, ◌≤◌, ◌==◌, nat_lt, Bool, true, false, not, ◌||◌, cond, List, [], ◌∷◌, ◌++◌, length, take, drop, refl}
+use Rattle.std.specs.Prelude.{◌≡◌, ℕ, ◌+◌, ◌<◌, ◌≤◌, ◌==◌, nat_lt, Bool, true, false, not, ◌||◌, cond, List, [], ◌∷◌, ◌++◌, length, take, drop, refl}
 use Rattle.std.specs.List.{list_any, fold, slice_split, onto_first, position_or_len, before_first, after_first}
 use Rattle.std.proofs.Common.{arith, get_or, ◌∙◌, sym, ap, length-drop}
 use Rattle.std.proofs.lemmas.Bool.Decides.{nat_tests}
@@ -8,7 +8,6 @@ use Rattle.std.proofs.lemmas.List.{take_all, drop_all, drop_more}
 use Rattle.std.proofs.lemmas.List.Folds.{list_any-append}
 use Rattle.std.proofs.lemmas.List.Splits.{slice_split_first, slice_split-cons_no, length-slice_split}
 use Rattle.std.proofs.lemmas.List.Sums.{prefix_len-le-length}
-use Rattle.theory.specs.Grounded.{Entries}
 use Rattle.model_text.specs.Model.{no_entries}
 use Rattle.model_text.specs.Lines.{text_lines, line_words, without_empty_end}
 use Rattle.model_text.proofs.ListTests.{or-none}
@@ -25,7 +24,7 @@ split-none p (b ∷ text) none = by (p b) refl none (split-none p text)
     by true is past others = absurd (omega arith)
     by false is past others = slice_split-cons_no p b text is ∙ ap (onto_first b) (others (omega arith))
 
-end-more : (piece : List ℕ) (pieces : List (List ℕ)) → 0 < length pieces → without_empty_end (piece ∷ pieces) ≡ piece ∷ without_empty_end pieces
+pub end-more : (piece : List ℕ) (pieces : List (List ℕ)) → 0 < length pieces → without_empty_end (piece ∷ pieces) ≡ piece ∷ without_empty_end pieces
 end-more piece [] some = absurd (omega arith)
 end-more [] (next ∷ pieces) some = refl
 end-more (b ∷ piece) (next ∷ pieces) some = refl

@@ -1,7 +1,7 @@
 -- Tests of a whole list, said of each of its items.
-use Rattle.std.specs.Prelude.{◌≡◌, ℕ, zero, suc, ◌+◌, ◌<◌, Bool, true, false, ◌||◌, List, [], ◌∷◌, length, refl}
+use Rattle.std.specs.Prelude.{◌≡◌, ℕ, zero, suc, ◌<◌, Bool, true, false, ◌||◌, List, [], ◌∷◌, length, refl}
 use Rattle.std.specs.List.{list_any}
-use Rattle.std.proofs.Common.{arith, get_or, ◌∙◌, sym}
+use Rattle.std.proofs.Common.{arith, get_or}
 
 pub neither : (a b : Bool) → (a || b) ≡ false → (a ≡ false) × (b ≡ false)
 neither true b none = cc
@@ -19,6 +19,6 @@ none-at p [] none k d below = absurd (omega arith)
 none-at p (x ∷ xs) none zero d below = (neither (p x) (list_any p xs) none).0
 none-at p (x ∷ xs) none (suc k) d below = none-at p xs (neither (p x) (list_any p xs) none).1 k d (omega arith)
 
-pub none-by : {X : Type 0} (p : X → Bool) (xs : List X) → ((k : ℕ) (d : X) → k < length xs → p (get_or xs k d) ≡ false) → list_any p xs ≡ false
-none-by p [] each = refl
-none-by p (x ∷ xs) each = rw (each 0 x (omega arith)) (none-by p xs (λ k d below. each (suc k) d (omega arith)))
+pub none-by : {X : Type 0} (p : X → Bool) (xs : List X) (d : X) → ((k : ℕ) → k < length xs → p (get_or xs k d) ≡ false) → list_any p xs ≡ false
+none-by p [] d each = refl
+none-by p (x ∷ xs) d each = rw (each 0 (omega arith)) (none-by p xs d (λ k below. each (suc k) (omega arith)))

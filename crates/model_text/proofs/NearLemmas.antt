@@ -1,5 +1,5 @@
 -- Digits read one after the other, where a value past the limit stays the first one past it.
-use Rattle.std.specs.Prelude.{◌≡◌, ℕ, ◌+◌, ◌-◌, ◌*◌, ◌<◌, ◌≤◌, min, Bool, true, ◌&&◌, List, [], ◌∷◌, length, drop, Option, None, Some, unwrap_or, refl}
+use Rattle.std.specs.Prelude.{◌≡◌, ℕ, ◌+◌, ◌-◌, ◌*◌, ◌<◌, min, true, ◌&&◌, List, [], ◌∷◌, length, drop, Option, None, Some, unwrap_or, refl}
 use Rattle.std.specs.Option.{option_map}
 use Rattle.theory.specs.declared.ext.Ext.{Ext}
 use Rattle.theory.specs.declared.ext.Ext.TheVariants.{MinusInf}

@@ -1,8 +1,8 @@
 -- The tests of one line, by what the reader asks in turn.
-use Rattle.std.specs.Prelude.{◌≡◌, ◌≢◌, ℕ, zero, suc, ◌+◌, ◌<◌, ◌==◌, Bool, true, false, not, ◌||◌, ◌&&◌, if◌then◌else◌, Option, None, Some, Result, Ok, Err, is_ok, MatchResult, List, [], ◌∷◌, length, codes, map, refl}
+use Rattle.std.specs.Prelude.{◌≡◌, ◌≢◌, ℕ, ◌+◌, ◌<◌, ◌==◌, Bool, true, false, not, ◌&&◌, if◌then◌else◌, None, Some, Result, Ok, Err, is_ok, MatchResult, List, [], ◌∷◌, length, codes, refl}
 use Rattle.std.specs.Borrow.{Bor}
 use Rattle.std.specs.Str.{bytes_eq, is_utf8, IsUtf8}
-use Rattle.std.proofs.Common.{arith, get_or, ◌∙◌, sym, ap}
+use Rattle.std.proofs.Common.{arith, get_or, ◌∙◌, sym}
 use Rattle.std.proofs.lemmas.Bool.Decides.{nat_tests}
 use Rattle.std.proofs.lemmas.List.{length-map}
 use Rattle.std.proofs.lemmas.Slice.Eq.{bytes_eq-Decides}

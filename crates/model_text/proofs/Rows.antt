@@ -8,7 +8,7 @@ use Rattle.model_text.specs.declared.fault.FaultWord.TheVariants.{Header, Keywor
 use Rattle.model_text.specs.Names.{is_name}
 use Rattle.model_text.specs.Lines.{text_lines, line_words, content}
 use Rattle.model_text.specs.NumberWords.{number_of}
-use Rattle.model_text.specs.ModelText.{first_fault, line_tests, entry_tests, entries_of, with_line, line_listing, line_names, line_items, line_base, list_words, base_words, is_node_line, is_arc_line, lacks_names, lacks_numbers, is_beyond, is_full, is_misshapen, has_fall, is_twice, is_unknown, is_loop, is_header, has_words, IsFirstFault, no_words}
+use Rattle.model_text.specs.ModelText.{first_fault, line_tests, entries_of, with_line, line_listing, line_names, line_items, line_base, list_words, base_words, is_node_line, is_arc_line, lacks_names, lacks_numbers, is_beyond, is_full, is_misshapen, has_fall, is_twice, is_unknown, is_loop, is_header, has_words, IsFirstFault, no_words}
 
 -- the fault of a line by its words, after others; a test for UTF-8 doesn't compute here
 abbrev after : List (List ℕ) → List ℕ → Option FaultWord

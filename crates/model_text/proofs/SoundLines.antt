@@ -1,8 +1,8 @@
 -- What a line that passes the tests may add to the model: its names are names, and the model has room for it.
-use Rattle.std.specs.Prelude.{◌≡◌, ◌≢◌, ℕ, zero, suc, ◌+◌, ◌<◌, ◌==◌, nat_lt, nat_le, Bool, true, false, not, ◌||◌, ◌&&◌, if◌then◌else◌, Option, None, Some, is_some, unwrap_or, List, [], ◌∷◌, length, take, drop, refl}
+use Rattle.std.specs.Prelude.{◌≡◌, ℕ, zero, suc, ◌<◌, ◌==◌, nat_lt, nat_le, Bool, true, false, not, ◌&&◌, if◌then◌else◌, Option, None, Some, is_some, List, [], ◌∷◌, length, take, drop, refl}
 use Rattle.std.specs.List.{list_all}
 use Rattle.std.specs.Str.{bytes_eq}
-use Rattle.std.proofs.Common.{arith, get_or, ◌∙◌, sym, ap, length-take, length-drop}
+use Rattle.std.proofs.Common.{arith, get_or, ◌∙◌, sym, ap}
 use Rattle.std.proofs.lemmas.Bool.Decides.{nat_tests}
 use Rattle.std.proofs.lemmas.Bool.{eqb-true}
 use Rattle.std.proofs.lemmas.List.{get_or-take}
@@ -14,7 +14,7 @@ use Rattle.model_text.specs.declared.fault.FaultWord.{FaultWord}
 use Rattle.model_text.specs.declared.model.TheConstants.{NODES_MOST, ARCS_MOST}
 use Rattle.model_text.specs.Model.{node_names, arc_names, place_of, node_fault, arc_fault, with_node, with_arc}
 use Rattle.model_text.specs.Names.{is_name}
-use Rattle.model_text.specs.ModelText.{first_fault, word_at, names_wanted, is_node_line, is_arc_line, line_names, line_items, line_listing, lacks_names, lacks_numbers, is_beyond, is_full, is_misshapen, has_fall, is_twice, is_unknown, is_loop, with_line, node_place}
+use Rattle.model_text.specs.ModelText.{first_fault, word_at, names_wanted, is_node_line, is_arc_line, line_names, line_items, line_listing, lacks_names, lacks_numbers, is_beyond, is_full, is_misshapen, has_fall, is_twice, is_unknown, is_loop, with_line}
 use Rattle.model_text.specs.LineParts.{number_tests, model_tests}
 use Rattle.model_text.proofs.FirstPlace.{found}
 use Rattle.model_text.proofs.ListTests.{neither, false-unless}
@@ -57,11 +57,11 @@ passes_together m words none =
 
 -- ---- names
 
-both : (a b : Bool) → (a && b) ≡ true → (a ≡ true) × (b ≡ true)
+pub both : (a b : Bool) → (a && b) ≡ true → (a ≡ true) × (b ≡ true)
 both true b all = (refl, all)
 both false b all = cc
 
-all-at : {X : Type 0} (p : X → Bool) (xs : List X) → list_all p xs ≡ true → (k : ℕ) (d : X) → k < length xs → p (get_or xs k d) ≡ true
+pub all-at : {X : Type 0} (p : X → Bool) (xs : List X) → list_all p xs ≡ true → (k : ℕ) (d : X) → k < length xs → p (get_or xs k d) ≡ true
 all-at p [] all k d below = absurd (omega arith)
 all-at p (x ∷ xs) all zero d below = (both (p x) (list_all p xs) all).0
 all-at p (x ∷ xs) all (suc k) d below = all-at p xs (both (p x) (list_all p xs) all).1 k d (omega arith)

@@ -13,7 +13,6 @@ use Rattle.theory.specs.Certificate.{IsWithin}
 use Rattle.theory.specs.CurveList.{IsCurveList, item}
 use Rattle.theory.specs.Ends.{IsFinite, IsBelow, is_finite, is_below, whole}
 use Rattle.theory.specs.Limits.{number_most, base_most, AreWithin}
-use Rattle.mono_curve.specs.CurveValue.{IsValidCurve}
 use Rattle.mono_curve.specs.Faults.{may_stand, IsPlaced, Rises, IsFault}
 use Rattle.mono_curve.specs.declared.fault.CurveFault.{CurveFault}
 use Rattle.mono_curve.specs.declared.fault.CurveFault.TheVariants.{Even, Long, Infinite, Magnitude, Order, NoMemory}
@@ -43,7 +42,7 @@ not-minus (e ∷ items) placed (suc k) after below = none-at is_minus_inf items 
 not-plus : (items : List Ext) → is_misplaced items ≡ false → (k : ℕ) → k + 1 < length items → is_plus_inf (item items k) ≡ false
 not-plus items placed k before =
     let none = none-at is_plus_inf (take (length items - 1) items) (neither (list_any is_minus_inf (drop 1 items)) _ placed).1 k MinusInf
-        (omega (arith, length-take (length items - 1) items)) in
+    (omega (arith, length-take (length items - 1) items)) in
     rw (get_or-take (length items - 1) items k MinusInf (omega arith)) at none
 
 finite-by : (e : Ext) → is_minus_inf e ≡ false → is_plus_inf e ≡ false → IsFinite e
@@ -64,10 +63,10 @@ rises-by : (items : List Ext) → has_fall items ≡ false → (k : ℕ) → k +
 unfolding has_fall
 rises-by items rising k below =
     let none = none-at (λ pair. not (is_below pair.0 pair.1)) (zip items (drop 2 items)) rising k (MinusInf, MinusInf)
-        (omega (arith, length-zip items (drop 2 items), length-drop 2 items)) in
+    (omega (arith, length-zip items (drop 2 items), length-drop 2 items)) in
     let pair : get_or (zip items (drop 2 items)) k (MinusInf, MinusInf) ≡ (item items k, item items (k + 2)) =
-        get_or-zip items (drop 2 items) k (MinusInf, MinusInf) (omega arith) (omega (arith, length-drop 2 items))
-        ∙ ap (λ e. (item items k, e)) (get_or-drop 2 items k MinusInf ∙ ap (item items) (omega arith)) in
+    get_or-zip items (drop 2 items) k (MinusInf, MinusInf) (omega arith) (omega (arith, length-drop 2 items))
+    ∙ ap (λ e. (item items k, e)) (get_or-drop 2 items k MinusInf ∙ ap (item items) (omega arith)) in
     truly (is_below (item items k) (item items (k + 2))) (rw pair at none)
   where
     truly : (b : Bool) → not b ≡ false → b ≡ true
@@ -92,12 +91,13 @@ sound-list items sound = record {
   odd = sound.odd;
   rises = rises-by items sound.rising;
   inner_finite = λ k after before. finite-by (item items k) (not-minus items sound.placed k after (omega arith)) (not-plus items sound.placed k before);
-  single_finite = single-finite items sound.single }
+  single_finite = single-finite items sound.single;
+}
 
 pub sound-placed : (items : List Ext) → IsSound items → (k : ℕ) → k < length items → IsPlaced items k
 sound-placed items sound k below =
     stands (item items k) (length items) k below sound.odd (λ after. not-minus items sound.placed k after below) (not-plus items sound.placed k)
-        (λ one first. rw first (single-finite items sound.single one))
+    (λ one first. rw first (single-finite items sound.single one))
 
 pub sound-small : (items : List Ext) → IsSound items → AreWithin number_most items
 sound-small items sound k below = within (whole (item items k)) (none-at (λ e. is_over (whole e)) items sound.small k MinusInf below)
@@ -141,7 +141,8 @@ sound-filled (e ∷ items) is_node short small count placed single rising = subs
   odd = odd-by (length (e ∷ items)) is_node (omega arith) count;
   placed = placed;
   single = single;
-  rising = rising })
+  rising = rising;
+})
   where
     odd-by : (n : ℕ) (node : Bool) → 0 < n → (n % 2 == 0 && not (node && n == 0)) ≡ false → n % 2 ≡ 1
     odd-by n node some count = grind (arith, nat_tests)

@@ -41,8 +41,9 @@ first-of : (lines : List (List ℕ)) (n : ℕ) → NoFaultBefore lines n ⊎ Has
 first-of lines zero = inl (λ k below. absurd (omega arith))
 first-of lines (suc n) =
     elim (first-of lines n) [
-      inl before ↦ by before (fault_at lines n) refl
-      | inr has ↦ inr (record { place = has.place; word = has.word; within = omega (arith, has.within); before = has.before; is = has.is }) ]
+      | inl before ↦ by before (fault_at lines n) refl
+      | inr has ↦ inr (record { place = has.place; word = has.word; within = omega (arith, has.within); before = has.before; is = has.is })
+    ]
   where
     by : NoFaultBefore lines n → (found : Option FaultWord) → fault_at lines n ≡ found → NoFaultBefore lines (suc n) ⊎ HasFault lines (suc n)
     by before None none = inl (rw (← add-one) (below_more _ _ before none))
@@ -51,8 +52,9 @@ first-of lines (suc n) =
 pub decided : DecidedLaw
 decided text =
     elim (first-of (text_lines text) (length (text_lines text))) [
-      inl before ↦ by before (list_any has_words (text_lines text)) refl
-      | inr has ↦ inr (has.place + 1, (has.word, bad_line has.within has.before has.is)) ]
+      | inl before ↦ by before (list_any has_words (text_lines text)) refl
+      | inr has ↦ inr (has.place + 1, (has.word, bad_line has.within has.before has.is))
+    ]
   where
     by : NoFaultBefore (text_lines text) (length (text_lines text)) → (begun : Bool) → list_any has_words (text_lines text) ≡ begun
         → ((m : Entries) × Spells text m) ⊎ ((line : ℕ) × ((word : FaultWord) × IsFirstFault text line word))

@@ -1,6 +1,6 @@
 -- The model text: which text spells which model, and where it spells none, the first bad line and its first word.
 -- The tests of a line are a table; a line is tested against the model that the lines before it have made.
-use Rattle.std.specs.Prelude.{◌≡◌, ◌≢◌, ℕ, ◌+◌, ◌-◌, ◌%◌, ◌<◌, ◌==◌, nat_lt, nat_le, ℤ, pos, Bool, true, false, not, ◌&&◌, ◌||◌, if◌then◌else◌, Option, None, Some, is_some, is_none, unwrap_or, unsigned_abs, List, [], ◌∷◌, ◌++◌, length, take, drop, map, slice_index_or, codes, IsTrue}
+use Rattle.std.specs.Prelude.{◌≡◌, ℕ, ◌+◌, ◌-◌, ◌%◌, ◌<◌, ◌==◌, nat_lt, nat_le, ℤ, pos, Bool, true, false, not, ◌&&◌, ◌||◌, if◌then◌else◌, Option, None, Some, is_some, is_none, unwrap_or, unsigned_abs, List, [], ◌∷◌, length, take, drop, map, slice_index_or, codes, IsTrue}
 use Rattle.std.specs.List.{list_any, list_all, fold, position_or_len, zip}
 use Rattle.std.specs.Str.{bytes_eq, is_utf8}
 use Rattle.theory.specs.declared.ext.Ext.{Ext}
@@ -60,7 +60,8 @@ line_base words = unwrap_or (number_of (word_at (base_words words) 1)) (pos 0)
 unfoldable pub line_listing : List (List ℕ) → Listing
 line_listing words = record {
   items = if length (line_items words) == 0 then At (pos 0) ∷ [] else line_items words;
-  base = line_base words }
+  base = line_base words;
+}
 
 -- ---- the model that lines make
 
@@ -171,8 +172,8 @@ unfoldable pub line_tests : Bool → Entries → List ℕ → List (Bool × Faul
 line_tests begun m line =
     (not (is_utf8 line), Utf8)
     ∷ (if has_words line then
-        (if begun then entry_tests m (line_words line) else ((not (is_header (line_words line)), Header) ∷ []))
-       else [])
+    (if begun then entry_tests m (line_words line) else ((not (is_header (line_words line)), Header) ∷ []))
+    else [])
 
 -- the word of the first test that the line fails
 abbrev pub first_fault : List (Bool × FaultWord) → Option FaultWord

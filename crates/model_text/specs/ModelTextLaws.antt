@@ -2,7 +2,9 @@
 use Rattle.std.specs.Prelude.{◌≡◌, ℕ, ◌⊎◌, List}
 use Rattle.theory.specs.Grounded.{Entries}
 use Rattle.model_text.specs.declared.fault.FaultWord.{FaultWord}
+use Rattle.model_text.specs.Model.{IsWellFormed}
 use Rattle.model_text.specs.ModelText.{Spells, IsFirstFault}
+use Rattle.model_text.specs.Printed.{printed_model}
 
 -- a text spells at most one model
 abbrev pub OneModelLaw : Type 0
@@ -20,3 +22,11 @@ OneFaultLaw = (text : List ℕ) (line others : ℕ) (word other : FaultWord) →
 -- every text spells a model or has a first fault
 abbrev pub DecidedLaw : Type 0
 DecidedLaw = (text : List ℕ) → ((m : Entries) × Spells text m) ⊎ ((line : ℕ) × ((word : FaultWord) × IsFirstFault text line word))
+
+-- the printed form of a model spells it
+abbrev pub PrintedLaw : Type 0
+PrintedLaw = (m : Entries) → IsWellFormed m → Spells (printed_model m) m
+
+-- and what is read from it is that model again
+abbrev pub ReadBackLaw : Type 0
+ReadBackLaw = (m n : Entries) → IsWellFormed m → Spells (printed_model m) n → n ≡ m

@@ -13,11 +13,7 @@ use std::alloc::Global;
 use theory::Ext;
 
 /// Adds what the line is to the model, where it passes the tests.
-pub(crate) fn read_entry(
-    alloc: Global,
-    model: &mut Model,
-    words: &[&[u8]],
-) -> Result<(), Refusal>
+pub(crate) fn read_entry(alloc: Global, model: &mut Model, words: &[&[u8]]) -> Result<(), Refusal>
     ensures tests { Passes (entry_tests model.old.entries (texts words.now)) result }
     ensures added { OnOk result (model.new.entries ≡ with_line model.old.entries (texts words.now)) }
 {
@@ -28,10 +24,7 @@ pub(crate) fn read_entry(
     if let Some(word) = model_fault(model, &line, &numbers.items) {
         return Err(Refusal::Fault(word));
     }
-    match add(alloc, model, &line, &numbers) {
-        Ok(()) => Ok(()),
-        Err(_) => Err(Refusal::NoMemory),
-    }
+    add(alloc, model, &line, &numbers).map_err(|_| Refusal::NoMemory)
 }
 
 /// The items and the base of a line.

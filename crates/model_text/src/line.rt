@@ -134,10 +134,7 @@ fn is_no_base(words: &[&[u8]]) -> bool
 fn items_of(alloc: Global, words: &[&[u8]]) -> Result<Vec<Ext>, AllocError>
     ensures { IfOk result (λ items. items.items ≡ map (λ word. near_item (unwrap_or (item_of word.now) Ext.MinusInf)) words.now) }
 {
-    words
-        .iter()
-        .map(|word| item_or_least(word))
-        .collect(alloc)
+    words.iter().map(|word| item_or_least(word)).collect(alloc)
 }
 
 impl Kind {

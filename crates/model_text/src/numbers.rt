@@ -5,10 +5,11 @@ ghost use Rattle.model_text.specs.NumberWords.{digits_of, number_of, item_of};
 ghost use Rattle.model_text.specs.NearNumbers.{near_digits, near_number, near_item};
 
 use crate::bytes::are_same;
+use mono_curve::NUMBER_MOST;
 use theory::Ext;
 
 /// The first number beyond the limit of a model, which stands for all that are greater.
-const BEYOND: u32 = 1_000_001;
+const BEYOND: u32 = NUMBER_MOST as u32 + 1;
 
 /// The item that a word is: an infinity or a number.
 pub(crate) fn item(word: &[u8]) -> Option<Ext>

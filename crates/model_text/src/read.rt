@@ -19,7 +19,7 @@ use thiserror::Error;
 #[derive(Clone, Copy, PartialEq, Eq, Debug, Error)]
 pub enum ModelError {
     /// The first bad line, counted from 1, and the word for the first test that it fails.
-    #[error("model line {line}")]
+    #[error("line {line} is no line of a model text")]
     Fault { line: u32, word: FaultWord },
     #[error("out of memory")]
     NoMemory,

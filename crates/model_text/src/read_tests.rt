@@ -36,30 +36,75 @@ fn texts(rt: HostRuntime) -> Result<(), Fail> {
         // one word each
         (b"network 1\nnode s\nnode t\npipe a", Err((4, Keyword))),
         (b"network 1\nnode s\nnode t\narc a s", Err((4, Name))),
-        (b"network 1\nnode s\nnode t\narc a s t 0 1 x", Err((4, Number))),
-        (b"network 1\nnode s\nnode t\narc a s t 0 1 2 base", Err((4, Number))),
-        (b"network 1\nnode s\nnode t\narc a s t 0 1 1000001", Err((4, Limit))),
+        (
+            b"network 1\nnode s\nnode t\narc a s t 0 1 x",
+            Err((4, Number)),
+        ),
+        (
+            b"network 1\nnode s\nnode t\narc a s t 0 1 2 base",
+            Err((4, Number)),
+        ),
+        (
+            b"network 1\nnode s\nnode t\narc a s t 0 1 1000001",
+            Err((4, Limit)),
+        ),
         (b"network 1\nnode s\nnode t\narc a s t 0 2", Err((4, Shape))),
         (b"network 1\nnode s\nnode t\narc a s t", Err((4, Shape))),
-        (b"network 1\nnode s\nnode t\narc a s t +inf", Err((4, Shape))),
-        (b"network 1\nnode s\nnode t\narc a s t 0 2 4 2 10", Err((4, Order))),
-        (b"network 1\nnode s\nnode t\narc a s t 3 0 3", Err((4, Order))),
+        (
+            b"network 1\nnode s\nnode t\narc a s t +inf",
+            Err((4, Shape)),
+        ),
+        (
+            b"network 1\nnode s\nnode t\narc a s t 0 2 4 2 10",
+            Err((4, Order)),
+        ),
+        (
+            b"network 1\nnode s\nnode t\narc a s t 3 0 3",
+            Err((4, Order)),
+        ),
         (b"network 1\nnode s\nnode t\nnode s", Err((4, Twice))),
-        (b"network 1\nnode s\nnode t\narc a s z 0 1 2", Err((4, Unknown))),
-        (b"network 1\nnode s\nnode t\narc a s s 0 1 2", Err((4, Loop))),
+        (
+            b"network 1\nnode s\nnode t\narc a s z 0 1 2",
+            Err((4, Unknown)),
+        ),
+        (
+            b"network 1\nnode s\nnode t\narc a s s 0 1 2",
+            Err((4, Loop)),
+        ),
         // the first word of several
-        (b"network 1\nnode s\nnode t\narc a s t 0 1000001", Err((4, Limit))),
-        (b"network 1\nnode s\nnode t\narc a s t 0 1000001 x", Err((4, Number))),
-        (b"network 1\nnode s\nnode t\narc a s t 1000001 base", Err((4, Number))),
-        (b"network 1\nnode s\nnode t\narc a s t 0 base 1000001", Err((4, Limit))),
-        (b"network 1\nnode s\nnode t\narc a z z 0 1 2", Err((4, Unknown))),
-        (b"network 1\nnode s\nnode t\narc a s t 0\narc a s s 0", Err((5, Twice))),
+        (
+            b"network 1\nnode s\nnode t\narc a s t 0 1000001",
+            Err((4, Limit)),
+        ),
+        (
+            b"network 1\nnode s\nnode t\narc a s t 0 1000001 x",
+            Err((4, Number)),
+        ),
+        (
+            b"network 1\nnode s\nnode t\narc a s t 1000001 base",
+            Err((4, Number)),
+        ),
+        (
+            b"network 1\nnode s\nnode t\narc a s t 0 base 1000001",
+            Err((4, Limit)),
+        ),
+        (
+            b"network 1\nnode s\nnode t\narc a z z 0 1 2",
+            Err((4, Unknown)),
+        ),
+        (
+            b"network 1\nnode s\nnode t\narc a s t 0\narc a s s 0",
+            Err((5, Twice)),
+        ),
         // numbers
         (b"network 1\nnode s +-1", Err((2, Number))),
         (b"network 1\nnode s -", Err((2, Number))),
         (b"network 1\nnode s 0\rbase 1", Err((2, Number))),
         (b"network 1\nnode s 0 base 1 2", Err((2, Number))),
-        (b"network 1\nnode s 1000000000000000000000000000000000000000", Err((2, Limit))),
+        (
+            b"network 1\nnode s 1000000000000000000000000000000000000000",
+            Err((2, Limit)),
+        ),
         (
             b"network 1\nnode s -0000000000000000000000000000000001000000",
             Ok(b"network 1\nnode s -1000000\n"),
@@ -71,7 +116,9 @@ fn texts(rt: HostRuntime) -> Result<(), Fail> {
         ),
         (
             b"# a\n\nnetwork\t1 # \xc3\xa9\r\n\tnode  n +2 03 06 base 10\r\nnode base base -4\narc arc n base -inf 3 inf base +0",
-            Ok(b"network 1\nnode n 2 3 6 base 10\nnode base 0 base -4\narc arc n base -inf 3 +inf\n"),
+            Ok(
+                b"network 1\nnode n 2 3 6 base 10\nnode base 0 base -4\narc arc n base -inf 3 +inf\n",
+            ),
         ),
     ] {
         match answer(&rt, text)? {

@@ -1,5 +1,5 @@
 // Laws of the model text.
-ghost use Rattle.model_text.specs.ModelTextLaws.{OneModelLaw, SpelledOrBadLaw, OneFaultLaw, DecidedLaw};
+ghost use Rattle.model_text.specs.ModelTextLaws.{OneModelLaw, SpelledOrBadLaw, OneFaultLaw, DecidedLaw, PrintedLaw, ReadBackLaw};
 
 /// A text spells at most one model.
 pub fn one_model()
@@ -19,4 +19,14 @@ pub fn one_fault()
 /// Every text spells a model or has a first fault.
 pub fn decided()
     ensures { DecidedLaw }
+{}
+
+/// The printed form of a model spells it.
+pub fn printed()
+    ensures { PrintedLaw }
+{}
+
+/// What the printed form of a model spells is that model.
+pub fn read_back()
+    ensures { ReadBackLaw }
 {}

@@ -1,8 +1,8 @@
-use Rattle.std.proofs.Common.{◌≡◌, rules, sym, ◌∙◌, ap, true, false, is_some, Some}
+use Rattle.std.proofs.Common.{◌≡◌, rules, sym, ◌∙◌, Some}
 use Rattle.model_text.specs.Model.{node_names, place_of}
 use Rattle.model_text.specs.ModelText.{word_at}
 use Rattle.model_text.specs.LineParts.{texts}
-use Rattle.model_text.proofs.SoundLines.{passes_alone, passes_together, node_free, arc_free, tail_known, adds_node, adds_arc}
+use Rattle.model_text.proofs.SoundLines.{passes_together, node_free, arc_free, tail_known, adds_node, adds_arc}
 use Rattle.model_text.proofs.addition.add.Goals as goal
 
 pub add_node-requires-clause-room : goal.add_node-requires-clause-room
@@ -50,4 +50,4 @@ returns-in_ok-add_arc-in-Arc c =
     let tail : place_of (node_names c.args.model.now.entries) (word_at words 2) ≡ Some c.unwrap-from.result = search rules in
     let head : place_of (node_names c.args.model.now.entries) (word_at words 3) ≡ Some c.unwrap-to.result = search rules in
     c.in_ok-add_arc-in-Arc.ensures ∙ rw (c.in_ok-name.ensures, c.in_ok-curve.ensures.listing)
-        (sym (adds_arc c.args.model.now.entries words c.unwrap-from.result c.unwrap-to.result node arc tail head))
+    (sym (adds_arc c.args.model.now.entries words c.unwrap-from.result c.unwrap-to.result node arc tail head))

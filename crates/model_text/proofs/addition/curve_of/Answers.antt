@@ -1,10 +1,7 @@
-use Rattle.std.proofs.Common.{◌≡◌, ◌≤◌, rules, sym, ◌∙◌, ap, length}
-use Rattle.theory.specs.Certificate.{IsWithin}
-use Rattle.theory.specs.Limits.{number_most}
+use Rattle.std.proofs.Common.{◌≡◌, rules, sym, ◌∙◌, ap}
 use Rattle.mono_curve.specs.Faults.{IsFault}
-use Rattle.model_text.specs.declared.model.TheConstants.{LIST_MOST}
 use Rattle.model_text.specs.LineParts.{texts}
-use Rattle.model_text.specs.ModelText.{line_items, line_base, line_listing}
+use Rattle.model_text.specs.ModelText.{line_base, line_listing}
 use Rattle.model_text.proofs.SoundLists.{only_memory, sound-line, sound-base, filled, listing-is}
 use Rattle.model_text.proofs.addition.curve_of.Goals as goal
 
@@ -16,7 +13,7 @@ unreachable-requires c =
     let based : c.from.result ≡ (line_listing words).base = base_is ∙ sym (ap (λ l. l.base) (listing-is words)) in
     let is : IsFault c.items_or-items.result.now c.from.result c.in-Err.fault = search rules in
     c.in_default.not-NoMemory (only_memory (line_listing words).items (line_listing words).base (sound-line words c.requires.limit c.requires.shape c.requires.order)
-        (sound-base words c.requires.limit c.requires.shape c.requires.order) c.in-Err.fault (rw (shown, based) at is))
+    (sound-base words c.requires.limit c.requires.shape c.requires.order) c.in-Err.fault (rw (shown, based) at is))
 
 pub returns-in-Ok-clause-listing : goal.returns-in-Ok-clause-listing
 returns-in-Ok-clause-listing c =

@@ -1,5 +1,4 @@
-use Rattle.std.proofs.Common.{◌≡◌, sym, ◌∙◌, ap, Err, true}
-use Rattle.model_text.specs.declared.name.NameFault.TheVariants.{Form}
+use Rattle.std.proofs.Common.{◌≡◌, ◌∙◌, ap, Err, true}
 use Rattle.model_text.specs.Names.{is_name}
 use Rattle.model_text.specs.LineParts.{texts}
 use Rattle.model_text.proofs.SoundLines.{first_is_name}

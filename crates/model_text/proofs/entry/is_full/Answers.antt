@@ -1,4 +1,4 @@
-use Rattle.std.proofs.Common.{arith, rules, refl}
+use Rattle.std.proofs.Common.{arith}
 use Rattle.std.proofs.lemmas.Bool.Decides.{nat_tests}
 use Rattle.model_text.specs.ModelText.{is_full}
 use Rattle.model_text.proofs.entry.is_full.Goals as goal

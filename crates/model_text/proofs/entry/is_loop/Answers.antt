@@ -1,5 +1,4 @@
-use Rattle.std.proofs.Common.{arith, rules, refl}
-use Rattle.std.proofs.lemmas.Bool.Decides.{nat_tests}
+use Rattle.std.proofs.Common.{rules, refl}
 use Rattle.model_text.specs.ModelText.{is_loop}
 use Rattle.model_text.proofs.entry.is_loop.Goals as goal
 

@@ -1,5 +1,4 @@
-use Rattle.std.proofs.Common.{arith, rules}
-use Rattle.std.proofs.lemmas.Bool.Decides.{nat_tests}
+use Rattle.std.proofs.Common.{arith}
 use Rattle.model_text.specs.ModelText.{is_misshapen}
 use Rattle.model_text.proofs.entry.is_misshapen.Goals as goal
 

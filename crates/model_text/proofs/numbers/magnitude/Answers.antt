@@ -1,5 +1,5 @@
-use Rattle.std.proofs.Common.{arith, sym, ◌∙◌, ◌≡◌, true, ap}
-use Rattle.model_text.proofs.NearLemmas.{near-step, digits-drop, near_after}
+use Rattle.std.proofs.Common.{arith, sym, ◌∙◌}
+use Rattle.model_text.proofs.NearLemmas.{near-step, digits-drop}
 use Rattle.model_text.proofs.numbers.magnitude.Goals as goal
 
 pub loop-digit-preserved : goal.loop-digit-preserved
@@ -12,4 +12,5 @@ loop-digit-preserved c =
       same_test = sym (rw is_digit at (digits-drop at digits (omega arith))) ∙ c.loop-digit.invariant.same_test;
       same_value =
           rw (c.min-value.ensures, c.from.ensures)
-              (sym (near-step c.loop-digit.value at digits (omega arith) is_digit) ∙ c.loop-digit.invariant.same_value) }
+          (sym (near-step c.loop-digit.value at digits (omega arith) is_digit) ∙ c.loop-digit.invariant.same_value);
+    }

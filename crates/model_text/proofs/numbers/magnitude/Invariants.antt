@@ -8,4 +8,5 @@ abbrev pub invariant-loop-digit : goal.invariant-loop-digit
 invariant-loop-digit l = record {
   most : l.value ≤ 1000001;
   same_test : all_ascii_digits (drop l.digit-index l.digits) ≡ all_ascii_digits l.digits;
-  same_value : near_after l.value (drop l.digit-index l.digits) ≡ near_after 0 l.digits }
+  same_value : near_after l.value (drop l.digit-index l.digits) ≡ near_after 0 l.digits;
+}

@@ -15,4 +15,5 @@ invariant-loop-rest l = record {
   lines_left : drop l.count (text_lines l.fn.text) ≡ text_lines l.rest;
   model : l.reader.model.entries ≡ entries_of (take l.count (text_lines l.fn.text));
   begun : l.reader.begun ≡ list_any has_words (take l.count (text_lines l.fn.text));
-  no_fault : NoFaultBefore (text_lines l.fn.text) l.count }
+  no_fault : NoFaultBefore (text_lines l.fn.text) l.count;
+}

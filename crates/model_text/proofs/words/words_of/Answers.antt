@@ -10,7 +10,7 @@ pub returns : goal.returns
 unfolding line_words
 returns c =
     map_from_collect _ c.collect.ensures.ran
-        (YieldsList-from_filter _ (λ piece. not (length piece == 0))
-            (YieldsList-at c.filter.ensures.source
-                (YieldsList-from_slice_split _ is_blank (content c.args.line.now) (c.split.ensures.rest ∙ c.content.ensures) c.split.ensures.done c.split.ensures.closure (λ x r q k. search (rules, tests))))
-            c.filter.ensures.closure (λ x r q k. search (rules, tests)))
+    (YieldsList-from_filter _ (λ piece. not (length piece == 0))
+    (YieldsList-at c.filter.ensures.source
+    (YieldsList-from_slice_split _ is_blank (content c.args.line.now) (c.split.ensures.rest ∙ c.content.ensures) c.split.ensures.done c.split.ensures.closure (λ x r q k. search (rules, tests))))
+    c.filter.ensures.closure (λ x r q k. search (rules, tests)))

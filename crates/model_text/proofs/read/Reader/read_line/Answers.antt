@@ -1,9 +1,9 @@
-use Rattle.std.proofs.Common.{◌≡◌, ◌<◌, ◌||◌, arith, rules, sym, ◌∙◌, ap, length, true, false, not, refl, if◌then◌else◌, Some, None}
+use Rattle.std.proofs.Common.{◌≡◌, ◌<◌, ◌||◌, arith, sym, ◌∙◌, ap, length, true, false, refl}
 use Rattle.std.specs.Str.{is_utf8}
 use Rattle.std.proofs.lemmas.Bool.Decides.{nat_tests}
 use Rattle.std.proofs.lemmas.List.{length-map}
 use Rattle.model_text.specs.Lines.{line_words}
-use Rattle.model_text.specs.ModelText.{is_header, has_words, line_tests, entry_tests, first_fault}
+use Rattle.model_text.specs.ModelText.{is_header, line_tests, entry_tests, first_fault}
 use Rattle.model_text.specs.LineParts.{texts}
 use Rattle.model_text.proofs.ListTests.{or-none}
 use Rattle.model_text.proofs.ReadLemmas.{not_text, blank, begins, goes_on, blank_adds, header_adds, no-words, some-words, passes-same}

@@ -1,0 +1,133 @@
+-- A printed line adds the node or the arc that it was printed for, and passes the tests in a model that has room for it.
+use Rattle.std.specs.Prelude.{◌≡◌, ℕ, ◌%◌, ◌<◌, ◌==◌, nat_lt, nat_le, true, false, None, Some, unwrap_or, pos, List, ◌∷◌, length, map, codes, refl}
+use Rattle.std.specs.List.{position_or_len}
+use Rattle.std.specs.Str.{bytes_eq}
+use Rattle.std.proofs.Common.{arith, ◌∙◌, ap}
+use Rattle.std.proofs.lemmas.Bool.Decides.{nat_tests}
+use Rattle.std.proofs.lemmas.List.{take_at, length-map}
+use Rattle.std.proofs.Math.Seq.{drop-append_seam}
+use Rattle.theory.specs.CurveList.{IsCurveList, Listing}
+use Rattle.theory.specs.Grounded.{Entries, NodeEntry}
+use Rattle.model_text.specs.declared.model.TheConstants.{NODES_MOST, ARCS_MOST, LIST_MOST}
+use Rattle.model_text.specs.Model.{IsWithinLimits, node_names, arc_names, place_of, with_node, with_arc}
+use Rattle.model_text.specs.Names.{is_name}
+use Rattle.model_text.specs.ModelText.{first_fault, entry_tests, with_line, line_listing, line_items, line_base, list_words, base_words, list_count, body, line_names, is_node_line, is_arc_line, lacks_names, lacks_numbers, is_beyond, is_full, is_misshapen, has_fall, is_twice, is_unknown, is_loop, is_base_word, word_at}
+use Rattle.model_text.specs.NumberWords.{item_of, number_of}
+use Rattle.theory.specs.declared.ext.Ext.TheVariants.{MinusInf}
+use Rattle.model_text.specs.Printed.{printed_list, printed_base, printed_curve, printed_end}
+use Rattle.model_text.proofs.PrintedCurve.{list-read, list-items, list-ends, base-is-one, base-read, within-small, base-small, list-placed, list-single, list-rises}
+
+-- the words of a printed node, of a printed arc
+abbrev pub node_words : NodeEntry → List (List ℕ)
+node_words node = codes "node" ∷ node.name ∷ printed_curve node.supply
+
+abbrev pub arc_words : List ℕ → List ℕ → List ℕ → Listing → List (List ℕ)
+arc_words name tail head curve = codes "arc" ∷ name ∷ tail ∷ head ∷ printed_curve curve
+
+-- ---- any line whose words after the names are a printed curve
+
+module _ (words : List (List ℕ)) (curve : Listing) (limits : IsWithinLimits curve) (is_list : IsCurveList curve.items) (printed : body words ≡ printed_curve curve) where
+  ends : list_count words ≡ length (printed_list curve.items)
+  ends = ap (λ l. position_or_len is_base_word l) printed ∙ list-ends curve.items curve.base limits.items
+
+  list-is : list_words words ≡ printed_list curve.items
+  unfolding list_words
+  list-is = rw (ends, printed) (take_at (printed_list curve.items) (printed_base curve.base) (length (printed_list curve.items)) refl)
+
+  based-is : base_words words ≡ printed_base curve.base
+  unfolding base_words
+  based-is = rw (ends, printed) (drop-append_seam (printed_list curve.items) (printed_base curve.base))
+
+  items-are : line_items words ≡ curve.items
+  unfolding line_items
+  items-are = ap (map (λ word. unwrap_or (item_of word) MinusInf)) list-is ∙ list-read curve.items limits.items
+
+  base-are : line_base words ≡ curve.base
+  unfolding line_base
+  base-are = ap (λ l. unwrap_or (number_of (word_at l 1)) (pos 0)) based-is ∙ base-read curve.base limits.base
+
+  some-items : (length curve.items == 0) ≡ false
+  some-items = let odd = is_list.odd in grind (arith, nat_tests)
+
+  listing-read : line_listing words ≡ curve
+  unfolding line_listing
+  listing-read = rw (items-are, base-are, some-items) refl
+
+  numbers-there : lacks_numbers words ≡ false
+  unfolding lacks_numbers
+  numbers-there = rw (list-is, based-is, list-items curve.items limits.items) (base-is-one curve.base limits.base)
+
+  in-limits : is_beyond words ≡ false
+  unfolding is_beyond
+  in-limits =
+      let short : nat_lt LIST_MOST (length (list_words words)) ≡ false =
+      rw (list-is, length-map curve.items printed_end) (let most = limits.short in grind (arith, nat_tests)) in
+      rw (short, items-are, base-are, within-small curve.items limits.items) (base-small curve.base limits.base)
+
+  well-shaped : is_misshapen words ≡ false
+  unfolding is_misshapen
+  well-shaped =
+      let even : (length curve.items % 2 == 0) ≡ false = let odd = is_list.odd in grind (arith, nat_tests) in
+      rw (items-are, even, list-placed curve.items is_list) (list-single curve.items is_list)
+
+  ordered : has_fall (line_items words) ≡ false
+  ordered = ap has_fall items-are ∙ list-rises curve.items is_list
+
+-- ---- a node
+
+module _ (m : Entries) (node : NodeEntry) (limits : IsWithinLimits node.supply) (is_list : IsCurveList node.supply.items) where
+  node-body : body (node_words node) ≡ printed_curve node.supply
+  unfolding is_node_line
+  node-body = refl
+
+  pub node-adds : with_line m (node_words node) ≡ with_node m node.name node.supply
+  unfolding with_line is_node_line
+  node-adds = ap (with_node m node.name) (listing-read (node_words node) node.supply limits is_list node-body)
+
+  pub node-passes : is_name node.name ≡ true → place_of (node_names m) node.name ≡ None → length m.nodes < NODES_MOST
+      → first_fault (entry_tests m (node_words node)) ≡ None
+  unfolding is_node_line is_arc_line lacks_names line_names is_full is_twice is_unknown is_loop
+  node-passes named free room =
+      let roomy : nat_le NODES_MOST (length m.nodes) ≡ false = grind (arith, nat_tests) in
+      rw (
+        named,
+        numbers-there (node_words node) node.supply limits is_list node-body,
+        in-limits (node_words node) node.supply limits is_list node-body,
+        roomy,
+        well-shaped (node_words node) node.supply limits is_list node-body,
+        ordered (node_words node) node.supply limits is_list node-body,
+        free,
+      ) refl
+
+-- ---- an arc
+
+module _ (m : Entries) (name tail head : List ℕ) (from to : ℕ) (curve : Listing) (limits : IsWithinLimits curve) (is_list : IsCurveList curve.items)
+    (tail_at : place_of (node_names m) tail ≡ Some from) (head_at : place_of (node_names m) head ≡ Some to) where
+  arc-body : body (arc_words name tail head curve) ≡ printed_curve curve
+  unfolding is_node_line
+  arc-body = refl
+
+  pub arc-adds : with_line m (arc_words name tail head curve) ≡ with_arc m name from to curve
+  unfolding with_line is_node_line is_arc_line
+  arc-adds = rw (listing-read (arc_words name tail head curve) curve limits is_list arc-body, tail_at, head_at) refl
+
+  pub arc-passes : is_name name ≡ true → is_name tail ≡ true → is_name head ≡ true → place_of (arc_names m) name ≡ None → length m.arcs < ARCS_MOST
+      → bytes_eq tail head ≡ false → first_fault (entry_tests m (arc_words name tail head curve)) ≡ None
+  unfolding is_node_line is_arc_line lacks_names line_names is_full is_twice is_unknown is_loop
+  arc-passes named tail_named head_named free room apart =
+      let roomy : nat_le ARCS_MOST (length m.arcs) ≡ false = grind (arith, nat_tests) in
+      let words = arc_words name tail head curve in
+      rw (
+        named,
+        tail_named,
+        head_named,
+        numbers-there words curve limits is_list arc-body,
+        in-limits words curve limits is_list arc-body,
+        roomy,
+        well-shaped words curve limits is_list arc-body,
+        ordered words curve limits is_list arc-body,
+        free,
+        tail_at,
+        head_at,
+        apart,
+      ) refl
