@@ -1,3 +1,4 @@
 -- Readings by places:
 pub mod Stairs
 pub mod ReadOff
+pub mod PieceSlopes

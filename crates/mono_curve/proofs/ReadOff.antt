@@ -40,27 +40,27 @@ not_below_over MinusInf z h = cc
 not_below_over (At b) z h = grind (arith, ints)
 not_below_over PlusInf z h = tt
 
-least_not_above : (e : Ext) (x : ℤ) → (e ≡ PlusInf → ⊥) → IsAtLeast 1 e x → is_below (At x) e ≡ false
+pub least_not_above : (e : Ext) (x : ℤ) → (e ≡ PlusInf → ⊥) → IsAtLeast 1 e x → is_below (At x) e ≡ false
 least_not_above MinusInf x finite h = refl
 least_not_above (At a) x finite h = grind (arith, ints)
 least_not_above PlusInf x finite h = absurd (finite refl)
 
-not_above_least : (e : Ext) (x : ℤ) → is_below (At x) e ≡ false → IsAtLeast 1 e x
+pub not_above_least : (e : Ext) (x : ℤ) → is_below (At x) e ≡ false → IsAtLeast 1 e x
 not_above_least MinusInf x h = tt
 not_above_least (At a) x h = grind (arith, ints)
 not_above_least PlusInf x h = tt
 
-most_not_below : (e : Ext) (x : ℤ) → (e ≡ MinusInf → ⊥) → IsAtMost 1 e x → is_below e (At x) ≡ false
+pub most_not_below : (e : Ext) (x : ℤ) → (e ≡ MinusInf → ⊥) → IsAtMost 1 e x → is_below e (At x) ≡ false
 most_not_below MinusInf x finite h = absurd (finite refl)
 most_not_below (At b) x finite h = grind (arith, ints)
 most_not_below PlusInf x finite h = refl
 
-not_below_most : (e : Ext) (x : ℤ) → is_below e (At x) ≡ false → IsAtMost 1 e x
+pub not_below_most : (e : Ext) (x : ℤ) → is_below e (At x) ≡ false → IsAtMost 1 e x
 not_below_most MinusInf x h = tt
 not_below_most (At b) x h = grind (arith, ints)
 not_below_most PlusInf x h = tt
 
-past_below : (e : Ext) (x : ℤ) → (e ≡ PlusInf → ⊥) → IsPast 1 e x → IsBelow e (At x)
+pub past_below : (e : Ext) (x : ℤ) → (e ≡ PlusInf → ⊥) → IsPast 1 e x → IsBelow e (At x)
 past_below MinusInf x finite h = refl
 past_below (At a) x finite h = grind (arith, ints)
 past_below PlusInf x finite h = absurd (finite refl)
@@ -70,7 +70,7 @@ below_past MinusInf x h = tt
 below_past (At a) x h = grind (arith, ints)
 below_past PlusInf x h = tt
 
-before_above : (e : Ext) (x : ℤ) → (e ≡ MinusInf → ⊥) → IsBefore 1 e x → IsBelow (At x) e
+pub before_above : (e : Ext) (x : ℤ) → (e ≡ MinusInf → ⊥) → IsBefore 1 e x → IsBelow (At x) e
 before_above MinusInf x finite h = absurd (finite refl)
 before_above (At b) x finite h = grind (arith, ints)
 before_above PlusInf x finite h = refl
@@ -105,27 +105,27 @@ above_nothing MinusInf = refl
 above_nothing (At a) = refl
 above_nothing PlusInf = refl
 
-clash : {b : Bool} → b ≡ true → b ≡ false → ⊥
+pub clash : {b : Bool} → b ≡ true → b ≡ false → ⊥
 clash g h = cc
 
 -- ---- pairs by the order of ends
 
-record IsPair (items : List Ext) (x v : Ext) : Type 0 where
-  not_under : is_below x (item items 0) ≡ false
-  not_over : is_below (item items (2 * (length items / 2))) x ≡ false
-  begins_below : (k : ℕ) → k < length items / 2 → IsBelow (item items (2 * k)) x → is_below v (item items (2 * k + 1)) ≡ false
-  ends_above : (k : ℕ) → k < length items / 2 → IsBelow x (item items (2 * k + 2)) → is_below (item items (2 * k + 1)) v ≡ false
+pub record IsPair (items : List Ext) (x v : Ext) : Type 0 where
+  pub not_under : is_below x (item items 0) ≡ false
+  pub not_over : is_below (item items (2 * (length items / 2))) x ≡ false
+  pub begins_below : (k : ℕ) → k < length items / 2 → IsBelow (item items (2 * k)) x → is_below v (item items (2 * k + 1)) ≡ false
+  pub ends_above : (k : ℕ) → k < length items / 2 → IsBelow x (item items (2 * k + 2)) → is_below (item items (2 * k + 1)) v ≡ false
 
 plus_below : (d : Ext) → IsBelow PlusInf d → ⊥
 plus_below d h = cc
 
-first_finite : (items : List Ext) → IsCurveList items → (k : ℕ) → k < length items / 2 → item items (2 * k) ≡ PlusInf → ⊥
+pub first_finite : (items : List Ext) → IsCurveList items → (k : ℕ) → k < length items / 2 → item items (2 * k) ≡ PlusInf → ⊥
 first_finite items list k h e = plus_below (item items (2 * k + 2)) (rw e at (list.rises (2 * k) (omega arith)))
 
-last_finite : (items : List Ext) → IsCurveList items → (k : ℕ) → k < length items / 2 → item items (2 * k + 2) ≡ MinusInf → ⊥
+pub last_finite : (items : List Ext) → IsCurveList items → (k : ℕ) → k < length items / 2 → item items (2 * k + 2) ≡ MinusInf → ⊥
 last_finite items list k h e = below_minus (item items (2 * k)) (rw e at (list.rises (2 * k) (omega arith)))
 
-slope_finite : (items : List Ext) → IsCurveList items → (k : ℕ) → k < length items / 2 → IsFinite (item items (2 * k + 1))
+pub slope_finite : (items : List Ext) → IsCurveList items → (k : ℕ) → k < length items / 2 → IsFinite (item items (2 * k + 1))
 slope_finite items list k h = list.inner_finite (2 * k + 1) (omega arith) (omega arith)
 
 single_is : (items : List Ext) → IsCurveList items → (e : Ext) → is_finite e ≡ false → length items ≡ 1 → item items 0 ≡ e → ⊥
@@ -140,10 +140,10 @@ last_not_minus items list e = elim (cases_lt 0 (length items / 2)) [
   | inr none ↦ (let at_start : 2 * (length items / 2) ≡ 0 = omega arith in single_is items list MinusInf refl (omega (arith, list.odd)) (rw at_start at e))
 ]
 
-last_is : (items : List Ext) → IsCurveList items → item items (2 * (length items / 2)) ≡ last items
+pub last_is : (items : List Ext) → IsCurveList items → item items (2 * (length items / 2)) ≡ last items
 last_is items list = last_at items (2 * (length items / 2)) (omega (arith, list.odd))
 
-pair_of_curve : (items : List Ext) (x v : ℤ) → IsCurveList items → IsOnCurve 1 items x v → IsPair items (At x) (At v)
+pub pair_of_curve : (items : List Ext) (x v : ℤ) → IsCurveList items → IsOnCurve 1 items x v → IsPair items (At x) (At v)
 pair_of_curve items x v list on =
     record {
       not_under = least_not_above (item items 0) x (first_not_plus items list) (rw (first_at items) on.in_domain.least);
@@ -152,7 +152,7 @@ pair_of_curve items x v list on =
       ends_above = λ k h above. slope_least (item items (2 * k + 1)) v (slope_finite items list k h) ((piece_on_curve items x v list on k h).ends_above (above_before (item items (2 * k + 2)) x above));
     }
 
-curve_of_pair : (items : List Ext) (x v : ℤ) → IsCurveList items → IsPair items (At x) (At v) → IsOnCurve 1 items x v
+pub curve_of_pair : (items : List Ext) (x v : ℤ) → IsCurveList items → IsPair items (At x) (At v) → IsOnCurve 1 items x v
 curve_of_pair items x v list pair =
     on_curve_by_pieces items x v list
     (record {
@@ -178,13 +178,13 @@ point_not_above items e k turn j h = let place : 2 * j + 0 ≡ 2 * j = omega ari
 point_above : (items : List Ext) (e : Ext) (k : ℕ) → IsCurveList items → IsTurn (is_item_up_to items 0 e) (count_from items 0) k → (j : ℕ) → k ≤ j → j ≤ length items / 2 → IsBelow e (item items (2 * j))
 point_above items e k list turn j h inside = let place : 2 * j + 0 ≡ 2 * j = omega arith in not_false (is_below e (item items (2 * j))) (rw place at (turn.after j h (omega (arith, list.odd))))
 
-later_point : (items : List Ext) → IsCurveList items → (x : Ext) (j k : ℕ) → j ≤ k → k ≤ length items / 2 → is_below (item items (2 * j)) x ≡ false → is_below (item items (2 * k)) x ≡ false
+pub later_point : (items : List Ext) → IsCurveList items → (x : Ext) (j k : ℕ) → j ≤ k → k ≤ length items / 2 → is_below (item items (2 * j)) x ≡ false → is_below (item items (2 * k)) x ≡ false
 later_point items list x j k order inside h =
     let a : 2 * j + 0 ≡ 2 * j = omega arith in
     let b : 2 * k + 0 ≡ 2 * k = omega arith in
     rw b at (later_not_below items list x 0 j k order (omega (arith, list.odd)) (rw a h))
 
-earlier_point : (items : List Ext) → IsCurveList items → (x : Ext) (j k : ℕ) → j ≤ k → k ≤ length items / 2 → is_below x (item items (2 * k)) ≡ false → is_below x (item items (2 * j)) ≡ false
+pub earlier_point : (items : List Ext) → IsCurveList items → (x : Ext) (j k : ℕ) → j ≤ k → k ≤ length items / 2 → is_below x (item items (2 * k)) ≡ false → is_below x (item items (2 * j)) ≡ false
 earlier_point items list x j k order inside h =
     let a : 2 * j + 0 ≡ 2 * j = omega arith in
     let b : 2 * k + 0 ≡ 2 * k = omega arith in

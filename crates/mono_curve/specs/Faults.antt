@@ -1,5 +1,5 @@
 -- The faults of a list: the tests in their order, and the place that each names.
-use Rattle.std.specs.Prelude.{◌≡◌, ℕ, ◌+◌, ◌-◌, ◌%◌, ◌<◌, ◌≤◌, ◌==◌, nat_le, ℤ, Bool, true, ◌&&◌, ◌⊎◌, IsTrue, List, length}
+use Rattle.std.specs.Prelude.{◌≡◌, ℕ, ◌+◌, ◌-◌, ◌%◌, ◌<◌, ◌≤◌, ◌==◌, nat_le, ℤ, Bool, true, ◌&&◌, ◌⊎◌, IsTrue, Option, None, Some, List, length}
 use Rattle.theory.specs.declared.ext.Ext.{Ext}
 use Rattle.theory.specs.declared.ext.Ext.TheVariants.{MinusInf, At, PlusInf}
 use Rattle.theory.specs.Ends.{whole, IsBelow}
@@ -15,6 +15,11 @@ pub record IsFirstToFail (P : ℕ → Type 0) (count k : ℕ) : Type 0 where
   pub there : k < count
   pub fails : ¬ (P k)
   pub before : (j : ℕ) → j < k → P j
+
+-- what a search for it answers
+abbrev pub IsFirstFailure : (ℕ → Type 0) → ℕ → Option ℕ → Type 0
+IsFirstFailure P count None = (k : ℕ) → k < count → P k
+IsFirstFailure P count (Some k) = IsFirstToFail P count k
 
 -- minus infinity may stand first and plus infinity last, in a list of three items or more
 abbrev pub may_stand : Ext → ℕ → ℕ → Bool

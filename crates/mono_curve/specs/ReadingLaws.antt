@@ -1,7 +1,9 @@
 -- Laws of a curve that is read at whole flows and tensions. Each holds of every curve list.
-use Rattle.std.specs.Prelude.{ℕ, ℤ, ◌≤ℤ◌, ◌<ℤ◌, ◌↔◌, List}
+use Rattle.std.specs.Prelude.{◌≡◌, ℕ, ◌+◌, ◌*◌, ◌/◌, ◌<◌, ℤ, ◌≤ℤ◌, ◌<ℤ◌, ◌↔◌, List, length}
 use Rattle.theory.specs.declared.ext.Ext.{Ext}
-use Rattle.theory.specs.CurveList.{IsCurveList}
+use Rattle.theory.specs.declared.ext.Ext.TheVariants.{MinusInf, At, PlusInf}
+use Rattle.theory.specs.Ends.{IsAtLeast, IsAtMost, IsPast, IsBefore}
+use Rattle.theory.specs.CurveList.{IsCurveList, item, first, last}
 use Rattle.theory.specs.Domain.{InDomain}
 use Rattle.theory.specs.Span.{InSpan}
 use Rattle.theory.specs.OnCurve.{IsOnCurve}
@@ -44,3 +46,15 @@ tensions_law items list x inside = tension_of_flow items x list inside
 
 pub flows_law : (items : List Ext) → IsCurveList items → TensionsHaveFlows items
 flows_law items list v inside = flow_of_tension items v list inside
+
+-- ---- the slopes at a flow, by the pieces on its two sides
+
+-- that of the piece that ends at or contains the flow on its left, or none at the first point; the same on the right
+pub record AreOfPieces (items : List Ext) (x : ℤ) (low high : Ext) : Type 0 where
+  pub left : (k : ℕ) → k < length items / 2 → IsPast 1 (item items (2 * k)) x → IsAtMost 1 (item items (2 * k + 2)) x → low ≡ item items (2 * k + 1)
+  pub at_first : first items ≡ At x → low ≡ MinusInf
+  pub right : (k : ℕ) → k < length items / 2 → IsAtLeast 1 (item items (2 * k)) x → IsBefore 1 (item items (2 * k + 2)) x → high ≡ item items (2 * k + 1)
+  pub at_last : last items ≡ At x → high ≡ PlusInf
+
+abbrev pub SlopesOfPiecesLaw : Type 0
+SlopesOfPiecesLaw = (items : List Ext) (x : ℤ) (low high : Ext) → IsCurveList items → IsSlopes items x low high → AreOfPieces items x low high

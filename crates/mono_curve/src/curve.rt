@@ -1,8 +1,6 @@
 // A curve that keeps its list.
-ghost use Rattle.std.specs.Prelude.{◌≡◌, ◌↔◌, ◌<◌, ◌≤◌, ◌*◌, IsTrue, IfOk, IfErr, MatchOption, MatchResult, length};
-ghost use Rattle.theory.specs.Ends.{whole, is_below};
-ghost use Rattle.theory.specs.CurveList.{item};
-ghost use Rattle.theory.specs.Limits.{number_most, base_most};
+ghost use Rattle.std.specs.Prelude.{◌≡◌, ◌≤◌, ◌*◌, IfOk, IfErr, length};
+ghost use Rattle.theory.specs.Limits.{base_most};
 ghost use Rattle.theory.specs.Certificate.{IsWithin};
 ghost use Rattle.mono_curve.specs.CurveValue.{IsValidCurve, items_most};
 
@@ -35,7 +33,8 @@ impl Model for Curve {
 impl Curve {
     ghost use Rattle.mono_curve.specs.Faults.{IsFault};
 
-    /// The curve of a list of breakpoints and slopes in turn, with the cost at the rest point as base.
+    /// The curve of a list of breakpoints and slopes in turn. The base is the cost at the rest
+    /// point.
     pub fn of_list(alloc: Global, items: &[Ext], base: i128) -> Result<Curve, CurveFault>
         ensures curve { IfOk result (λ c. c.listing ≡ record { items = items.now; base = base }) }
         ensures fault { IfErr result (IsFault items.now base) }
@@ -63,9 +62,7 @@ pub fn to_curve<C: Listed>(alloc: Global, curve: &C) -> Result<Curve, AllocError
 }
 
 impl Listed for Curve {
-    ghost use Rattle.std.proofs.Common.{lit≤};
-    ghost use Rattle.theory.proofs.Bounds.{length-short, conjugate_base-within, within_more};
-    ghost use Rattle.mono_curve.specs.CurveValue.{CurveValue};
+    ghost use Rattle.mono_curve.specs.CurveFacts.{short_list, small_base, small_conjugate_base};
 
     ghost listing = { λ c. c.listing };
 
@@ -73,11 +70,11 @@ impl Listed for Curve {
 
     ghost items_within = { λ c. c.valid.items_within };
 
-    ghost is_short = { λ c. length-short number_most c.listing.items c.valid.is_list c.valid.items_within };
+    ghost is_short = { λ c. short_list c };
 
-    ghost base_within = { λ c. within_more base_most (2 * base_most) c.listing.base (lit≤ tt) c.valid.base_within };
+    ghost base_within = { λ c. small_base c };
 
-    ghost conjugate_base_within = { λ c. conjugate_base-within c.listing.items c.listing.base c.valid.is_list c.valid.items_within c.valid.short c.valid.base_within };
+    ghost conjugate_base_within = { λ c. small_conjugate_base c };
 
     fn len(&self) -> usize {
         self.items.len()
@@ -94,8 +91,9 @@ impl Listed for Curve {
 
 impl Monotone for Curve {
     ghost use Rattle.std.proofs.Common.{lit≤};
-    ghost use Rattle.theory.proofs.Bounds.{length-short};
-    ghost use Rattle.mono_curve.specs.ReadingLaws.{slopes_law, range_law, rise_law, tensions_law, flows_law};
+    ghost use Rattle.mono_curve.specs.CurveFacts.{short_list};
+    ghost use Rattle.mono_curve.specs.ReadingLaws.{slopes_law, range_law, rise_law};
+    ghost use Rattle.mono_curve.specs.ReadingLaws.{tensions_law, flows_law};
 
     ghost items = { λ c. c.listing.items };
 
@@ -105,7 +103,7 @@ impl Monotone for Curve {
 
     ghost items_within = { λ c. c.valid.items_within };
 
-    ghost is_short = { λ c. length-short number_most c.listing.items c.valid.is_list c.valid.items_within };
+    ghost is_short = { λ c. short_list c };
 
     ghost weighs = { λ c. lit≤ tt };
 

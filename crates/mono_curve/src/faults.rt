@@ -1,10 +1,11 @@
 // The tests of a list, in their order.
-ghost use Rattle.std.specs.Prelude.{◌≡◌, ℕ, ◌↔◌, ◌<◌, IsTrue, MatchOption, MatchResult, length};
+ghost use Rattle.std.specs.Prelude.{◌≡◌, ◌↔◌, ◌<◌, IsTrue, OnOk, IfErr, length};
 ghost use Rattle.theory.specs.Ends.{whole, is_below};
 ghost use Rattle.theory.specs.Limits.{number_most, base_most};
 ghost use Rattle.theory.specs.Certificate.{IsWithin};
 ghost use Rattle.mono_curve.specs.CurveValue.{IsValidCurve};
-ghost use Rattle.mono_curve.specs.Faults.{may_stand, IsPlaced, IsSmall, Rises, IsFirstToFail, IsFault};
+ghost use Rattle.mono_curve.specs.Faults.{may_stand, IsPlaced, IsSmall, Rises};
+ghost use Rattle.mono_curve.specs.Faults.{IsFirstFailure, IsFault};
 
 use crate::fault::CurveFault;
 use crate::limits::{BASE_MOST, ITEMS_MOST, NUMBER_MOST};
@@ -47,7 +48,7 @@ pub fn precedes(end: Ext, other: Ext) -> bool
 // ---- the first place that fails
 
 fn first_misplaced(items: &[Ext]) -> Option<usize>
-    ensures { MatchOption result ((k : ℕ) → k < length items.now → IsPlaced items.now k) (IsFirstToFail (IsPlaced items.now) (length items.now)) }
+    ensures { IsFirstFailure (IsPlaced items.now) (length items.now) result }
 {
     for k in 0..items.len() {
         if !stands_well(items[k], items.len(), k) {
@@ -58,7 +59,7 @@ fn first_misplaced(items: &[Ext]) -> Option<usize>
 }
 
 fn first_large(items: &[Ext]) -> Option<usize>
-    ensures { MatchOption result ((k : ℕ) → k < length items.now → IsSmall items.now k) (IsFirstToFail (IsSmall items.now) (length items.now)) }
+    ensures { IsFirstFailure (IsSmall items.now) (length items.now) result }
 {
     for k in 0..items.len() {
         if !is_small(items[k]) {
@@ -69,7 +70,7 @@ fn first_large(items: &[Ext]) -> Option<usize>
 }
 
 fn first_not_rising(items: &[Ext]) -> Option<usize>
-    ensures { MatchOption result ((k : ℕ) → k < length items.now → Rises items.now k) (IsFirstToFail (Rises items.now) (length items.now)) }
+    ensures { IsFirstFailure (Rises items.now) (length items.now) result }
 {
     for k in 2..items.len() {
         if !precedes(items[k - 2], items[k]) {
@@ -83,7 +84,8 @@ fn first_not_rising(items: &[Ext]) -> Option<usize>
 
 /// The first fault of a list, if it has one.
 pub fn check(items: &[Ext], base: i128) -> Result<(), CurveFault>
-    ensures { MatchResult result (λ _. IsValidCurve (record { items = items.now; base = base })) (IsFault items.now base) }
+    ensures ok { OnOk result (IsValidCurve (record { items = items.now; base = base })) }
+    ensures fault { IfErr result (IsFault items.now base) }
 {
     if items.len() % 2 == 0 {
         return Err(CurveFault::Even);

@@ -1,10 +1,9 @@
 // Readings of a kept list by a halving search.
-ghost use Rattle.std.specs.Prelude.{◌≡◌, ◌+◌, ◌≤◌, length};
-ghost use Rattle.theory.specs.CurveList.{IsCurveList, item};
+ghost use Rattle.std.specs.Prelude.{◌≤◌};
+ghost use Rattle.theory.specs.CurveList.{IsCurveList};
 ghost use Rattle.theory.specs.Readings.{IsSlopes, IsRange};
-ghost use Rattle.theory.specs.Limits.{arg_most};
-ghost use Rattle.theory.specs.Certificate.{IsWithin};
-ghost use Rattle.mono_curve.specs.Halving.{IsTurn, IsSlopeBefore, count_from, is_item_below, is_item_up_to};
+ghost use Rattle.mono_curve.specs.Halving.{IsTurn, count_from, is_item_below, is_item_up_to};
+ghost use Rattle.mono_curve.specs.Halving.{IsSlopeBefore};
 
 use crate::faults::precedes;
 use theory::Ext;

@@ -1,4 +1,4 @@
-// Curves: convex piecewise-linear costs that are read as steps, flow by flow and tension by tension.
+// Curves: convex piecewise-linear costs, read flow by flow and tension by tension.
 #![tactic(auto)]
 
 mod curve;
@@ -9,6 +9,7 @@ mod limits;
 mod listed;
 mod monotone;
 mod pricing;
+pub mod reading_laws;
 mod steps;
 
 pub use curve::{Curve, to_curve};
@@ -19,3 +20,6 @@ pub use monotone::Monotone;
 pub use pricing::{cost_at, domain_of, on_curve, span_of};
 pub use steps::Steps;
 pub use theory::Ext;
+
+#[cfg(test)]
+mod tests;

@@ -7,13 +7,15 @@ ghost use Rattle.theory.specs.Readings.{IsSlopes, IsRange};
 ghost use Rattle.theory.specs.Limits.{AreWithin, number_most, arg_most};
 ghost use Rattle.theory.specs.Certificate.{IsWithin};
 ghost use Rattle.mono_curve.specs.Counted.{IsCounted};
-ghost use Rattle.mono_curve.specs.ReadingLaws.{SlopesLaw, RangeLaw, PairsRise, FlowsHaveTensions, TensionsHaveFlows};
+ghost use Rattle.mono_curve.specs.ReadingLaws.{SlopesLaw, RangeLaw, PairsRise};
+ghost use Rattle.mono_curve.specs.ReadingLaws.{FlowsHaveTensions, TensionsHaveFlows};
 
 use crate::steps::Steps;
 use std::sync::ledger::Ledger;
 use theory::Ext;
 
-/// A curve that is read at a flow or a tension. What a reading may add to the counter, its weight, contracts alone see.
+/// A curve that is read at a flow or a tension. Contracts alone see its weight, which is the most
+/// that one reading adds to the counter.
 pub trait Monotone {
     ghost items: { Self → List Item };
 

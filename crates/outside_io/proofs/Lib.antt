@@ -1,4 +1,4 @@
 mod Added
-mod Entries
+pub mod Entries
 pub mod Grown
 mod Held

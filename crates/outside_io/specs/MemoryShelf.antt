@@ -1,5 +1,5 @@
 -- A source of files in memory: its state, and exactly what each call answers and leaves.
-use Rattle.std.specs.Prelude.{◌≡◌, ℕ, ◌<◌, Bool, true, false, List, [], length, take, drop, min, Option, Some, None, slice_index_or, refl}
+use Rattle.std.specs.Prelude.{◌≡◌, ℕ, ◌<◌, Bool, true, false, List, [], length, take, drop, min, Some, None, refl}
 use Rattle.std.specs.Coded.{Coded, code_by, coded×, coded_list, coded_bool, coded_ℕ}
 use Rattle.outside_io.specs.Counts.{raised, is_listed}
 use Rattle.outside_io.specs.Files.{Files, file_of, no_files, files_code}

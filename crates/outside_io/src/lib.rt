@@ -5,16 +5,23 @@
 
 mod byte_text;
 mod failing;
+mod file_shelf;
 mod files;
 mod memory_shelf;
 mod memory_sink;
 mod shelf;
 mod sink;
+mod std_sink;
 mod whole;
 
 pub use byte_text::ByteText;
+pub use file_shelf::FileShelf;
 pub use memory_shelf::MemoryShelf;
 pub use memory_sink::MemorySink;
 pub use shelf::{Got, Opened, Shelf};
 pub use sink::{Put, Sink};
+pub use std_sink::StdSink;
 pub use whole::{ReadAns, Written, read_file, write_all};
+
+#[cfg(test)]
+mod tests;

@@ -126,7 +126,7 @@ impl Shelf for MemoryShelf {
             return Got::Fault;
         }
         let Some(place) = self.place else {
-            return Got::End;
+            unreachable!()
         };
         let rest = rest_at(self.files.as_slice(), place);
         if rest.is_empty() {

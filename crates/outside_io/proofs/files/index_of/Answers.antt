@@ -1,4 +1,4 @@
-use Rattle.std.proofs.Common.{◌∙◌, ◌<◌, ◌≤◌, length, arith, rules}
+use Rattle.std.proofs.Common.{◌∙◌, arith, rules}
 use Rattle.outside_io.proofs.Entries.{found_here, not_here, none_beyond}
 use Rattle.outside_io.proofs.files.index_of.Goals as goal
 

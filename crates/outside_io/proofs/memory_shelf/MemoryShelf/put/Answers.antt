@@ -1,6 +1,5 @@
 use Rattle.std.proofs.Common.{rules, ◌≡◌, [], ◌∷◌, ◌++◌, false, None, is_some, ap, ◌∙◌}
-use Rattle.outside_io.specs.Files.{file_of, files_of, with_file}
-use Rattle.outside_io.specs.Places.{left_at}
+use Rattle.outside_io.specs.Files.{file_of, files_of}
 use Rattle.outside_io.proofs.Entries.{found_with_file}
 use Rattle.outside_io.proofs.Added.{holds_one_more, nothing_left}
 use Rattle.outside_io.proofs.memory_shelf.MemoryShelf.put.Goals as goal

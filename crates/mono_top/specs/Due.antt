@@ -1,0 +1,27 @@
+-- What a due status says of the request, of the files, and of the counts.
+use Rattle.std.specs.Prelude.{◌≡◌, ◌≢◌, ℕ, List, Option, None}
+use Rattle.std.specs.Option.{ForSome}
+use Rattle.mono_top.specs.Answer.{Outside}
+use Rattle.mono_top.specs.Causes.{AsksUnbuilt}
+use Rattle.mono_top.specs.Reading.{AllReadable, ReachesMissing, ReachesPastMost, ReachesTooLong}
+use Rattle.mono_top.specs.Request.{Request, files_of}
+use Rattle.mono_top.specs.declared.status.Status.{Status}
+use Rattle.mono_top.specs.declared.status.Status.TheVariants.{Usage, Missing, ReadFault, WriteFault, NoMemory, TooLong, Unbuilt}
+
+-- of the files that were to be read, in this order
+pub record IsDueOfFiles (names : List (List ℕ)) (outside : Outside) (status : Status) : Type 0 where
+  pub has_text : (status ≢ WriteFault) × (status ≢ NoMemory)
+  pub missed : status ≡ Missing → outside.missed
+  pub not_held : status ≡ Missing → ForSome outside.holds (λ files. ReachesMissing files names)
+  pub faulted : status ≡ ReadFault → outside.faulted
+  pub too_long : status ≡ TooLong → ForSome outside.holds (λ files. ReachesPastMost files outside.rest names)
+  pub too_long_always : ForSome outside.holds (λ files. ReachesTooLong files names → ¬ outside.faulted → status ≡ TooLong)
+  pub readable : ForSome outside.holds (λ files. AllReadable files names → (status ≢ Missing) × (status ≢ TooLong))
+
+-- of the whole request
+pub record IsDue (request : Option Request) (outside : Outside) (status : Status) : Type 0 where
+  pub usage : status ≡ Usage → request ≡ None
+  pub usage_always : request ≡ None → status ≡ Usage
+  pub of_files : IsDueOfFiles (files_of request) outside status
+  pub unbuilt : status ≡ Unbuilt → ForSome outside.holds (λ files. AsksUnbuilt files request)
+  pub unbuilt_always : ForSome outside.holds (λ files. AsksUnbuilt files request → ¬ outside.faulted → status ≡ Unbuilt)

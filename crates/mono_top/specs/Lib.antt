@@ -1,0 +1,12 @@
+pub mod Answer
+pub mod Causes
+pub mod Commands
+pub mod Due
+pub mod Ending
+pub mod Fetch
+pub mod Lines
+pub mod Reading
+pub mod Replies
+pub mod Request
+pub mod Solves
+pub mod Status

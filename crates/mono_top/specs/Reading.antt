@@ -1,0 +1,40 @@
+-- The files of a request, read one after the other.
+use Rattle.std.specs.Prelude.{◌≡◌, ◌⊎◌, ℕ, ◌+◌, ◌≤◌, List, [], ◌∷◌, ◌++◌, length, Option, Some, None, ⊤}
+use Rattle.outside_io.specs.Files.{Files, file_of}
+use Rattle.outside_io.specs.Whole.{IsHeld, IsTooLong}
+
+-- the most bytes of a file
+abbrev pub file_most : ℕ
+file_most = 4194304
+
+-- the file is held, and not too long
+abbrev pub IsReadable : Files → List ℕ → Type 0
+IsReadable files name = (bytes : List ℕ) × (file_of files name ≡ Some bytes) × (length bytes ≤ file_most)
+
+-- `file_most + 1` bytes of the file were read, and `rest` is what follows them
+abbrev pub IsReadPastMost : Files → Option (List ℕ) → List ℕ → Type 0
+IsReadPastMost files rest name =
+    (taken left : List ℕ) × (length taken ≡ file_most + 1) × (file_of files name ≡ Some (taken ++ left)) × (rest ≡ Some left)
+
+-- P of a file that is reached: each file before it is readable
+abbrev pub Reaches : Files → (List ℕ → Type 0) → List (List ℕ) → Type 0
+Reaches files P [] = ⊥
+Reaches files P (name ∷ names) = P name ⊎ (IsReadable files name × Reaches files P names)
+
+abbrev pub ReachesMissing : Files → List (List ℕ) → Type 0
+ReachesMissing files names = Reaches files (λ name. file_of files name ≡ None) names
+
+abbrev pub ReachesTooLong : Files → List (List ℕ) → Type 0
+ReachesTooLong files names = Reaches files (λ name. IsTooLong files name file_most) names
+
+abbrev pub ReachesPastMost : Files → Option (List ℕ) → List (List ℕ) → Type 0
+ReachesPastMost files rest names = Reaches files (IsReadPastMost files rest) names
+
+abbrev pub AllReadable : Files → List (List ℕ) → Type 0
+AllReadable files [] = ⊤
+AllReadable files (name ∷ names) = IsReadable files name × AllReadable files names
+
+-- the first file, if there is one, is held
+abbrev pub HoldsFirst : Files → List (List ℕ) → Type 0
+HoldsFirst files [] = ⊤
+HoldsFirst files (name ∷ names) = IsHeld files name

@@ -1,0 +1,14 @@
+-- The exit code of each status.
+use Rattle.std.specs.Prelude.{ℕ}
+use Rattle.mono_top.specs.declared.status.Status.{Status}
+use Rattle.mono_top.specs.declared.status.Status.TheVariants.{Done, Usage, Missing, ReadFault, WriteFault, NoMemory, TooLong, Unbuilt}
+
+abbrev pub code_of : Status → ℕ
+code_of Done = 0
+code_of Usage = 4
+code_of Missing = 6
+code_of ReadFault = 7
+code_of WriteFault = 8
+code_of NoMemory = 9
+code_of TooLong = 10
+code_of Unbuilt = 13

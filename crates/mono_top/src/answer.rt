@@ -1,0 +1,36 @@
+// From the words to the reply: all of the work, and no write.
+ghost use Rattle.std.specs.Prelude.{◌≡◌, None, IfOk};
+ghost use Rattle.outside_io.specs.Counts.{Rose, Counts};
+ghost use Rattle.mono_top.specs.Answer.{outside_of};
+ghost use Rattle.mono_top.specs.Due.{IsDue};
+ghost use Rattle.mono_top.specs.Replies.{Replies};
+ghost use Rattle.mono_top.specs.Request.{asked};
+
+use crate::command::{Command, command_of};
+use crate::lines;
+use crate::reply::Reply;
+use crate::solve::solve;
+use crate::status::Status;
+use outside_io::Shelf;
+use std::alloc::{AllocError, Global};
+
+#[tactic(auto, using(crate::proofs::DueLemmas::due))]
+pub(crate) fn reply_to<S: Shelf>(
+    alloc: Global,
+    words: &[String],
+    shelf: &mut S,
+) -> Result<Reply, AllocError>
+    ensures replies { Replies (asked words.now) (outside_of (S.holds shelf.old) (S.rest shelf.new)
+        (Rose (S.misses shelf.old) (S.misses shelf.new)) (Rose (S.faults shelf.old) (S.faults shelf.new))) result }
+    ensures due { IfOk result (λ reply. IsDue (asked words.now) (outside_of (S.holds shelf.old) (S.rest shelf.new)
+        (Rose (S.misses shelf.old) (S.misses shelf.new)) (Rose (S.faults shelf.old) (S.faults shelf.new))) reply.status) }
+    ensures untouched { asked words.now ≡ None → shelf.new ≡ shelf.old }
+    ensures holds { S.holds shelf.new ≡ S.holds shelf.old }
+    ensures misses { Counts (S.misses shelf.old) (S.misses shelf.new) }
+    ensures faults { Counts (S.faults shelf.old) (S.faults shelf.new) }
+{
+    match command_of(words) {
+        Some(Command::Solve { model }) => Ok(solve(alloc, shelf, model)?),
+        None => Ok(Reply::refusal(Status::Usage, lines::usage())),
+    }
+}

@@ -1,0 +1,21 @@
+// The words of a call, as a command.
+ghost use Rattle.std.specs.Prelude.{◌≡◌, option_map};
+ghost use Rattle.mono_top.specs.Request.{asked};
+ghost use Rattle.mono_top.specs.Commands.{request_by};
+
+#[derive(Clone, Copy)]
+pub(crate) enum Command<'a> {
+    Solve { model: &'a str },
+}
+
+/// The words' own bytes serve as names, so this takes no memory.
+pub(crate) fn command_of(words: &[String]) -> Option<Command<'_>>
+    ensures { option_map request_by result ≡ asked words.now }
+{
+    match words {
+        [command, model] if command.as_str() == "solve" => Some(Command::Solve {
+            model: model.as_str(),
+        }),
+        _ => None,
+    }
+}

@@ -1,0 +1,42 @@
+// A file of a command's words, read whole or refused.
+ghost use Rattle.std.specs.Prelude.{◌≡◌};
+ghost use Rattle.outside_io.specs.Counts.{Rose, Counts};
+ghost use Rattle.mono_top.specs.Answer.{outside_of};
+ghost use Rattle.mono_top.specs.Fetch.{Fetches};
+
+use crate::lines::{self, Place};
+use crate::reply::Reply;
+use crate::status::Status;
+use outside_io::{ByteText, ReadAns, Shelf, read_file};
+use std::alloc::{AllocError, Global};
+
+/// The most bytes of a file.
+pub const FILE_MOST: usize = 4_194_304;
+
+#[derive(Drop)]
+pub(crate) enum Fetched {
+    Bytes(ByteText),
+    Refused(Reply),
+}
+
+pub(crate) fn fetch<S: Shelf>(
+    alloc: Global,
+    shelf: &mut S,
+    place: Place,
+    name: &str,
+) -> Result<Fetched, AllocError>
+    ensures fetches { Fetches place name.now (outside_of (S.holds shelf.old) (S.rest shelf.new)
+        (Rose (S.misses shelf.old) (S.misses shelf.new)) (Rose (S.faults shelf.old) (S.faults shelf.new))) result }
+    ensures holds { S.holds shelf.new ≡ S.holds shelf.old }
+    ensures misses { Counts (S.misses shelf.old) (S.misses shelf.new) }
+    ensures faults { Counts (S.faults shelf.old) (S.faults shelf.new) }
+{
+    let reply = match read_file(alloc, shelf, name, FILE_MOST) {
+        ReadAns::Bytes(bytes) => return Ok(Fetched::Bytes(bytes)),
+        ReadAns::NoMemory => return Err(AllocError),
+        ReadAns::Missing => Reply::refusal(Status::Missing, lines::missing(place)),
+        ReadAns::Fault => Reply::refusal(Status::ReadFault, lines::read_fault(place)),
+        ReadAns::TooLong => Reply::refusal(Status::TooLong, lines::too_long(place)),
+    };
+    Ok(Fetched::Refused(reply))
+}

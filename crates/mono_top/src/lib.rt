@@ -1,0 +1,18 @@
+//! The commands of the program, whole: from the words and the files to the text that is written and the status.
+#![tactic(auto)]
+
+mod answer;
+mod command;
+mod fetch;
+mod lines;
+mod reply;
+mod solve;
+mod status;
+mod top;
+
+pub use fetch::FILE_MOST;
+pub use status::Status;
+pub use top::run;
+
+#[cfg(test)]
+mod tests;

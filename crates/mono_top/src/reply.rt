@@ -1,0 +1,42 @@
+// What a call is to write and how it is to end, decided before the first byte is written.
+ghost use Rattle.std.specs.Prelude.{◌≡◌};
+ghost use Rattle.mono_top.specs.Fetch.{text_of};
+
+use crate::status::Status;
+use outside_io::ByteText;
+
+/// A refusal is a line of the program's own, so it takes no memory.
+#[derive(Drop)]
+pub(crate) enum Text {
+    Fixed(&'static [u8]),
+    Made(ByteText),
+}
+
+#[derive(Drop)]
+pub(crate) struct Reply {
+    pub status: Status,
+    pub text: Text,
+}
+
+impl Text {
+    pub fn as_slice(&self) -> &[u8]
+        ensures { result.now ≡ text_of self.now }
+    {
+        match self {
+            Text::Fixed(line) => line,
+            Text::Made(text) => text.as_slice(),
+        }
+    }
+}
+
+impl Reply {
+    pub fn refusal(status: Status, line: &'static [u8]) -> Reply
+        ensures status { result.status ≡ status }
+        ensures text { text_of result.text ≡ line.entry.now }
+    {
+        Reply {
+            status,
+            text: Text::Fixed(line),
+        }
+    }
+}
