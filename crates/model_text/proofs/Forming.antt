@@ -1,23 +1,23 @@
 -- A well-formed model stays so with a further node and with a further arc.
-use Rattle.std.proofs.Common.{◌≡◌, ◌≢◌, ℕ, ◌+◌, ◌<◌, ◌≤◌, List, [], ◌∷◌, ◌++◌, length, All, None, sym, subst, arith}
-use Rattle.std.specs.List.{AllPairs}
+use Rattle.std.proofs.Common.{◌≡◌, ◌≢◌, ℕ, ◌<◌, List, [], ◌∷◌, ◌++◌, length, None, sym, subst, arith}
 use Rattle.std.proofs.lemmas.List.{map_push, length_push}
 use Rattle.std.proofs.lemmas.List.Elements.{All-push}
 use Rattle.std.proofs.lemmas.List.Quantifiers.{all_pairs_push}
 use Rattle.theory.specs.CurveList.{Listing, IsCurveList}
 use Rattle.theory.specs.Grounded.{Entries, NodeEntry, ArcEntry}
 use Rattle.model_text.specs.Names.{IsName}
-use Rattle.model_text.specs.Model.{node_names, arc_names, place_of, with_node, with_arc, AreNames, IsSmall, IsWellFormed}
+use Rattle.model_text.specs.Model.{node_names, arc_names, place_of, with_node, with_arc, AreNames, IsWithinLimits, IsWellFormed}
 use Rattle.model_text.specs.declared.model.TheConstants.{NODES_MOST, ARCS_MOST}
 use Rattle.model_text.proofs.Places.{absent}
 
 names_push : (names : List (List ℕ)) (name : List ℕ) → AreNames names → IsName name → place_of names name ≡ None → AreNames (names ++ name ∷ [])
 names_push names name are named none = record {
   each = All-push IsName names name are.each named;
-  differ = all_pairs_push (λ a b. a ≢ b) names name are.differ (λ k d here. absent names name none k d here) }
+  differ = all_pairs_push (λ a b. a ≢ b) names name are.differ (λ k d here. absent names name none k d here);
+}
 
 pub formed_with_node : (m : Entries) (name : List ℕ) (supply : Listing) → IsWellFormed m → IsName name
-    → place_of (node_names m) name ≡ None → length m.nodes < NODES_MOST → IsCurveList supply.items → IsSmall supply
+    → place_of (node_names m) name ≡ None → length m.nodes < NODES_MOST → IsCurveList supply.items → IsWithinLimits supply
     → IsWellFormed (with_node m name supply)
 formed_with_node m name supply formed named none room list small =
     let longer = length_push m.nodes (record { name = name; supply = supply }) in
@@ -27,17 +27,19 @@ formed_with_node m name supply formed named none room list small =
         curves = formed.model.curves;
         tails = λ j d here. omega (arith, formed.model.tails j d here, longer);
         heads = λ j d here. omega (arith, formed.model.heads j d here, longer);
-        no_loops = formed.model.no_loops };
+        no_loops = formed.model.no_loops;
+      };
       nodes_most = omega (arith, longer);
       arcs_most = formed.arcs_most;
       nodes_named = subst AreNames (sym (map_push (λ (node : NodeEntry). node.name) m.nodes _)) (names_push (node_names m) name formed.nodes_named named none);
       arcs_named = formed.arcs_named;
-      supplies = All-push (λ (node : NodeEntry). IsSmall node.supply) m.nodes _ formed.supplies small;
-      curves = formed.curves }
+      supplies = All-push (λ (node : NodeEntry). IsWithinLimits node.supply) m.nodes _ formed.supplies small;
+      curves = formed.curves;
+    }
 
 pub formed_with_arc : (m : Entries) (name : List ℕ) (tail head : ℕ) (curve : Listing) → IsWellFormed m → IsName name
     → place_of (arc_names m) name ≡ None → length m.arcs < ARCS_MOST → tail < length m.nodes → head < length m.nodes → tail ≢ head
-    → IsCurveList curve.items → IsSmall curve
+    → IsCurveList curve.items → IsWithinLimits curve
     → IsWellFormed (with_arc m name tail head curve)
 formed_with_arc m name tail head curve formed named none room tail_there head_there apart list small =
     let longer = length_push m.arcs (record { name = name; from = tail; to = head; curve = curve }) in
@@ -47,10 +49,12 @@ formed_with_arc m name tail head curve formed named none room tail_there head_th
         curves = All-push (λ (arc : ArcEntry). IsCurveList arc.curve.items) m.arcs _ formed.model.curves list;
         tails = All-push (λ (arc : ArcEntry). arc.from < length m.nodes) m.arcs _ formed.model.tails tail_there;
         heads = All-push (λ (arc : ArcEntry). arc.to < length m.nodes) m.arcs _ formed.model.heads head_there;
-        no_loops = All-push (λ (arc : ArcEntry). arc.from ≢ arc.to) m.arcs _ formed.model.no_loops apart };
+        no_loops = All-push (λ (arc : ArcEntry). arc.from ≢ arc.to) m.arcs _ formed.model.no_loops apart;
+      };
       nodes_most = formed.nodes_most;
       arcs_most = omega (arith, longer);
       nodes_named = formed.nodes_named;
       arcs_named = subst AreNames (sym (map_push (λ (arc : ArcEntry). arc.name) m.arcs _)) (names_push (arc_names m) name formed.arcs_named named none);
       supplies = formed.supplies;
-      curves = All-push (λ (arc : ArcEntry). IsSmall arc.curve) m.arcs _ formed.curves small }
+      curves = All-push (λ (arc : ArcEntry). IsWithinLimits arc.curve) m.arcs _ formed.curves small;
+    }

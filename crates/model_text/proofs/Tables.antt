@@ -1,5 +1,5 @@
 -- What the tables answer, said of the model's entries.
-use Rattle.std.proofs.Common.{◌≡◌, ◌≢◌, ℕ, suc, ◌+◌, ◌<◌, Bool, false, if◌then◌else◌, List, [], ◌∷◌, ◌++◌, length, get_or, map, position, bytes_eq, Option, None, Some, is_some, Result, Ok, Err, OnOk, OnErr, refl, sym, ap, subst, ◌∙◌, arith}
+use Rattle.std.proofs.Common.{◌≡◌, ◌≢◌, ℕ, suc, ◌<◌, Bool, false, if◌then◌else◌, List, [], ◌∷◌, ◌++◌, length, get_or, map, position, bytes_eq, Option, None, Some, is_some, Result, Ok, Err, OnOk, OnErr, refl, sym, ap, subst, ◌∙◌, arith}
 use Rattle.std.specs.Prelude.{nat_eq}
 use Rattle.std.specs.Cmp.Lexicographic.{pointwise}
 use Rattle.std.specs.declared.vec.Vec.{Vec}
@@ -8,7 +8,7 @@ use Rattle.indexmap.specs.IndexMap.{insert_entry}
 use Rattle.mono_curve.specs.declared.curve.Curve.{Curve}
 use Rattle.theory.specs.Grounded.{NodeEntry, ArcEntry}
 use Rattle.model_text.specs.declared.model.Joining.{Joining}
-use Rattle.model_text.specs.Model.{place_of, node_names, arc_names, with_node, with_arc, IsSmall, IsWellFormed}
+use Rattle.model_text.specs.Model.{place_of, node_names, arc_names, with_node, with_arc, IsWithinLimits, IsWellFormed}
 use Rattle.model_text.specs.ModelTables.{node_entry, arc_entry, table_entries}
 use Rattle.model_text.specs.Names.{IsName}
 use Rattle.model_text.specs.declared.model.TheConstants.{NODES_MOST, ARCS_MOST}
@@ -54,20 +54,20 @@ module _ {A : Type 0} where
   -- the model stays well-formed with the row that a name without a place adds
   pub node_keeps : (nodes : List (Vec ℕ A × Curve)) (arcs : List (Vec ℕ A × Joining)) (key : Vec ℕ A) (supply : Curve)
       → IsWellFormed (table_entries nodes arcs) → IsName key.items → place_of (node_names (table_entries nodes arcs)) key.items ≡ None
-      → length nodes < NODES_MOST → IsSmall supply.listing
+      → length nodes < NODES_MOST → IsWithinLimits supply.listing
       → IsWellFormed (table_entries (insert_entry same_key nodes key supply) arcs)
   node_keeps nodes arcs key supply formed named none room small =
       subst IsWellFormed (sym (node_inserted nodes arcs key supply none))
-        (formed_with_node (table_entries nodes arcs) key.items supply.listing formed named none (omega (arith, length-map nodes node_entry)) supply.valid.is_list small)
+      (formed_with_node (table_entries nodes arcs) key.items supply.listing formed named none (omega (arith, length-map nodes node_entry)) supply.valid.is_list small)
 
   pub arc_keeps : (nodes : List (Vec ℕ A × Curve)) (arcs : List (Vec ℕ A × Joining)) (key : Vec ℕ A) (joining : Joining)
       → IsWellFormed (table_entries nodes arcs) → IsName key.items → place_of (arc_names (table_entries nodes arcs)) key.items ≡ None
       → length arcs < ARCS_MOST → joining.from < length (map node_entry nodes) → joining.to < length (map node_entry nodes) → joining.from ≢ joining.to
-      → IsSmall joining.curve.listing
+      → IsWithinLimits joining.curve.listing
       → IsWellFormed (table_entries nodes (insert_entry same_key arcs key joining))
   arc_keeps nodes arcs key joining formed named none room tail_there head_there apart small =
       subst IsWellFormed (sym (arc_inserted nodes arcs key joining none))
-        (formed_with_arc (table_entries nodes arcs) key.items joining.from joining.to joining.curve.listing formed named none (omega (arith, length-map arcs arc_entry)) tail_there head_there apart joining.curve.valid.is_list small)
+      (formed_with_arc (table_entries nodes arcs) key.items joining.from joining.to joining.curve.listing formed named none (omega (arith, length-map arcs arc_entry)) tail_there head_there apart joining.curve.valid.is_list small)
 
 -- what holds of the rows as they were and with a further row holds after an insertion, whether or not there was memory
 pub either_way : {T E X : Type 0} (P : X → Type 0) (r : Result T E) (old new further : X) → OnOk r (new ≡ further) → OnErr r (new ≡ old) → P old → P further → P new

@@ -1,5 +1,5 @@
 -- A model as its entries, in the order of their lines, and what every model keeps.
-use Rattle.std.specs.Prelude.{◌≢◌, ℕ, ◌+◌, ◌≤◌, Option, None, Some, is_some, nat_le, ◌==◌, if◌then◌else◌, pos, List, [], ◌∷◌, ◌++◌, map, length, position, slice_index_or, All, AllPairs, bytes_eq}
+use Rattle.std.specs.Prelude.{◌≢◌, ℕ, ◌≤◌, Option, None, Some, is_some, nat_le, ◌==◌, if◌then◌else◌, pos, List, [], ◌∷◌, ◌++◌, map, length, position, slice_index_or, All, AllPairs, bytes_eq}
 use Rattle.theory.specs.Certificate.{IsWithin}
 use Rattle.theory.specs.CurveList.{Listing}
 use Rattle.theory.specs.Grounded.{Entries, NodeEntry, ArcEntry, IsModel}
@@ -59,7 +59,7 @@ pub record AreNames (names : List (List ℕ)) : Type 0 where
   pub differ : AllPairs ◌≢◌ names
 
 -- a curve that a line of a model text can spell
-pub record IsSmall (curve : Listing) : Type 0 where
+pub record IsWithinLimits (curve : Listing) : Type 0 where
   pub short : length curve.items ≤ LIST_MOST
   pub items : AreWithin number_most curve.items
   pub base : IsWithin number_most curve.base
@@ -70,8 +70,8 @@ pub record IsWellFormed (m : Entries) : Type 0 where
   pub arcs_most : length m.arcs ≤ ARCS_MOST
   pub nodes_named : AreNames (node_names m)
   pub arcs_named : AreNames (arc_names m)
-  pub supplies : All (λ node. IsSmall node.supply) m.nodes
-  pub curves : All (λ arc. IsSmall arc.curve) m.arcs
+  pub supplies : All (λ node. IsWithinLimits node.supply) m.nodes
+  pub curves : All (λ arc. IsWithinLimits arc.curve) m.arcs
 
 -- what a clause sees of a `Model`: its entries, and that they are well-formed
 pub record Formed : Type 0 where

@@ -27,24 +27,24 @@ abbrev pub printed_line : List ℕ → List (List ℕ) → List ℕ
 printed_line keyword words = keyword ++ spaced words ++ 10 ∷ []
 
 -- a list is written in full, and its base exactly where that isn't 0
-abbrev pub list_words : List Ext → List (List ℕ)
-list_words items = map printed_end items
+abbrev pub printed_list : List Ext → List (List ℕ)
+printed_list items = map printed_end items
 
-abbrev pub base_words : ℤ → List (List ℕ)
-base_words base = if int_eq base (pos 0) then [] else (codes "base" ∷ printed_number base ∷ [])
+abbrev pub printed_base : ℤ → List (List ℕ)
+printed_base base = if int_eq base (pos 0) then [] else (codes "base" ∷ printed_number base ∷ [])
 
-abbrev pub curve_words : Listing → List (List ℕ)
-curve_words curve = list_words curve.items ++ base_words curve.base
+abbrev pub printed_curve : Listing → List (List ℕ)
+printed_curve curve = printed_list curve.items ++ printed_base curve.base
 
 -- ---- the printed form of a model: the header, a line per node, a line per arc
 
 abbrev pub printed_node : NodeEntry → List ℕ
-printed_node node = printed_line (codes "node") (node.name ∷ curve_words node.supply)
+printed_node node = printed_line (codes "node") (node.name ∷ printed_curve node.supply)
 
 abbrev pub printed_arc : Entries → ArcEntry → List ℕ
 printed_arc m arc =
     printed_line (codes "arc")
-      (arc.name ∷ (node_at m arc.from).name ∷ (node_at m arc.to).name ∷ curve_words arc.curve)
+    (arc.name ∷ (node_at m arc.from).name ∷ (node_at m arc.to).name ∷ printed_curve arc.curve)
 
 abbrev pub printed_model : Entries → List ℕ
 printed_model m =

@@ -4,6 +4,8 @@
 mod model;
 mod name;
 mod print;
+#[cfg(test)]
+mod tests;
 
 pub use model::{ARCS_MOST, AddFault, LIST_MOST, Model, NODES_MOST};
 pub use name::{NAME_MOST, Name, NameFault, is_name};

@@ -1,10 +1,10 @@
 // The model: nodes with supplies, arcs with curves, and the tables that find them by name.
-ghost use Rattle.std.specs.Prelude.{◌≡◌, ◌≤◌, ◌<◌, length, IfOk, OnOk, OnErr, IsOkUnless, MatchOption};
+ghost use Rattle.std.specs.Prelude.{◌≡◌, ◌≤◌, ◌<◌, length, IfOk, IfSome, OnOk, OnErr, IsOkUnless, MatchOption};
 ghost use Rattle.model_text.specs.Model.{IsWellFormed};
 ghost use Rattle.model_text.specs.ModelTables.{table_entries};
 
-use indexmap::IndexMap;
 use crate::name::Name;
+use indexmap::IndexMap;
 use mono_curve::Curve;
 use std::alloc::Global;
 use thiserror::Error;
@@ -77,7 +77,8 @@ impl Model {
         requires short { length supply.listing.items ≤ LIST_MOST }
         requires base { IsWithin number_most supply.listing.base }
         ensures position { IfOk result (λ i. i ≡ length self.old.entries.nodes) }
-        ensures added { OnOk result (self.new.entries ≡ with_node self.old.entries name.bytes supply.listing) }
+        ensures added { OnOk result (self.new.entries
+            ≡ with_node self.old.entries name.bytes supply.listing) }
         ensures refused { MatchOption (node_fault self.old.entries name.bytes)
             (IsOkUnless result AddFault.NoMemory) (λ fault. result ≡ Err fault) }
         ensures err { OnErr result (self.new.entries ≡ self.old.entries) }
@@ -96,19 +97,14 @@ impl Model {
     }
 
     /// Adds an arc between two nodes, by their positions, and gives its own position.
-    pub fn add_arc(
-        &mut self,
-        name: Name,
-        from: u32,
-        to: u32,
-        curve: Curve,
-    ) -> Result<u32, AddFault>
+    pub fn add_arc(&mut self, name: Name, from: u32, to: u32, curve: Curve) -> Result<u32, AddFault>
         requires tail { from < length self.old.entries.nodes }
         requires head { to < length self.old.entries.nodes }
         requires short { length curve.listing.items ≤ LIST_MOST }
         requires base { IsWithin number_most curve.listing.base }
         ensures position { IfOk result (λ j. j ≡ length self.old.entries.arcs) }
-        ensures added { OnOk result (self.new.entries ≡ with_arc self.old.entries name.bytes from to curve.listing) }
+        ensures added { OnOk result (self.new.entries
+            ≡ with_arc self.old.entries name.bytes from to curve.listing) }
         ensures refused { MatchOption (arc_fault self.old.entries name.bytes from to)
             (IsOkUnless result AddFault.NoMemory) (λ fault. result ≡ Err fault) }
         ensures err { OnErr result (self.new.entries ≡ self.old.entries) }
@@ -123,7 +119,10 @@ impl Model {
         if position >= ARCS_MOST {
             return Err(AddFault::Full);
         }
-        match self.arcs.insert(name.into_vec(), Joining { from, to, curve }) {
+        match self
+            .arcs
+            .insert(name.into_vec(), Joining { from, to, curve })
+        {
             Ok(_) => Ok(position as u32),
             Err(_) => Err(AddFault::NoMemory),
         }
@@ -191,7 +190,8 @@ impl Model {
 
     /// The position of the node of that name.
     pub fn node_of(&self, name: &[u8]) -> Option<u32>
-        ensures { result ≡ place_of (node_names self.now.entries) name.now }
+        ensures place { result ≡ place_of (node_names self.now.entries) name.now }
+        ensures there { IfSome result (λ i. i < length self.now.entries.nodes) }
     {
         match self.nodes.get_index_of(name) {
             Some(position) => Some(position as u32),
@@ -201,7 +201,8 @@ impl Model {
 
     /// The position of the arc of that name.
     pub fn arc_of(&self, name: &[u8]) -> Option<u32>
-        ensures { result ≡ place_of (arc_names self.now.entries) name.now }
+        ensures place { result ≡ place_of (arc_names self.now.entries) name.now }
+        ensures there { IfSome result (λ i. i < length self.now.entries.arcs) }
     {
         match self.arcs.get_index_of(name) {
             Some(position) => Some(position as u32),

@@ -2,10 +2,10 @@
 ghost use Rattle.std.specs.Prelude.{◌≡◌, ◌++◌, ◌<◌, [], ◌∷◌, length, IfOk, OnOk, OnErr};
 ghost use Rattle.std.specs.List.{flat_map};
 ghost use Rattle.model_text.specs.Model.{node_at, arc_at};
-ghost use Rattle.model_text.specs.Printed.{printed_number, printed_end, spaced, list_words, base_words, curve_words, printed_node, printed_arc, printed_model};
+ghost use Rattle.model_text.specs.Printed.{printed_end, spaced, printed_list, printed_base, printed_curve, printed_node, printed_arc, printed_model};
 
 use crate::model::Model;
-use itoa::Buffer;
+use itoa::{Buffer, Integer};
 use mono_curve::{Curve, Ext, Listed};
 use outside_io::ByteText;
 use std::alloc::{AllocError, Global};
@@ -20,9 +20,9 @@ pub fn append_word(out: &mut Vec<u8>, word: &[u8]) -> Result<(), AllocError>
     out.extend_from_slice(word)
 }
 
-/// Appends a space and the number.
-pub fn append_number(out: &mut Vec<u8>, number: i128) -> Result<(), AllocError>
-    ensures ok { OnOk result (out.new.items ≡ out.old.items ++ 32 ∷ printed_number number) }
+/// Appends a space and the number in its one shortest decimal form.
+pub fn append_number<I: Integer>(out: &mut Vec<u8>, number: I) -> Result<(), AllocError>
+    ensures ok { OnOk result (out.new.items ≡ out.old.items ++ 32 ∷ I.text number) }
     ensures err { OnErr result (out.new.items ≡ out.old.items) }
 {
     append_word(out, Buffer::new().format(number).as_bytes())
@@ -35,14 +35,15 @@ pub fn append_end(out: &mut Vec<u8>, end: Ext) -> Result<(), AllocError>
 {
     match end {
         Ext::MinusInf => append_word(out, b"-inf"),
-        Ext::At(number) => append_number(out, i128::from(number)),
+        Ext::At(number) => append_number(out, number),
         Ext::PlusInf => append_word(out, b"+inf"),
     }
 }
 
 /// Appends the items of the list, each after a space.
 pub fn append_list<C: Listed>(out: &mut Vec<u8>, curve: &C) -> Result<(), AllocError>
-    ensures ok { OnOk result (out.new.items ≡ out.old.items ++ spaced (list_words (C.listing curve.now).items)) }
+    ensures ok { OnOk result (out.new.items
+        ≡ out.old.items ++ spaced (printed_list (C.listing curve.now).items)) }
     ensures err { OnErr result (out.new.items ≡ out.old.items) }
 {
     let before = out.len();
@@ -69,7 +70,7 @@ pub fn append_line(out: &mut Vec<u8>, line: &[u8]) -> Result<(), AllocError>
 // Below, a text that memory ran out for is dropped, so nothing is said of it.
 
 fn append_base(out: &mut Vec<u8>, base: i128) -> Result<(), AllocError>
-    ensures { OnOk result (out.new.items ≡ out.old.items ++ spaced (base_words base)) }
+    ensures { OnOk result (out.new.items ≡ out.old.items ++ spaced (printed_base base)) }
 {
     if base != 0 {
         append_word(out, b"base")?;
@@ -80,7 +81,8 @@ fn append_base(out: &mut Vec<u8>, base: i128) -> Result<(), AllocError>
 
 // Appends the curve of a node or an arc, which ends the line.
 fn append_curve(out: &mut Vec<u8>, curve: &Curve) -> Result<(), AllocError>
-    ensures { OnOk result (out.new.items ≡ out.old.items ++ spaced (curve_words curve.now.listing) ++ 10 ∷ []) }
+    ensures { OnOk result (out.new.items
+        ≡ out.old.items ++ spaced (printed_curve curve.now.listing) ++ 10 ∷ []) }
 {
     append_list(out, curve)?;
     append_base(out, curve.base())?;
@@ -89,7 +91,8 @@ fn append_curve(out: &mut Vec<u8>, curve: &Curve) -> Result<(), AllocError>
 
 fn append_node(out: &mut Vec<u8>, m: &Model, i: u32) -> Result<(), AllocError>
     requires { i < length m.now.entries.nodes }
-    ensures { OnOk result (out.new.items ≡ out.old.items ++ printed_node (node_at m.now.entries i)) }
+    ensures { OnOk result (out.new.items
+        ≡ out.old.items ++ printed_node (node_at m.now.entries i)) }
 {
     out.extend_from_slice(b"node")?;
     append_word(out, m.node_name(i))?;
@@ -98,7 +101,8 @@ fn append_node(out: &mut Vec<u8>, m: &Model, i: u32) -> Result<(), AllocError>
 
 fn append_arc(out: &mut Vec<u8>, m: &Model, j: u32) -> Result<(), AllocError>
     requires { j < length m.now.entries.arcs }
-    ensures { OnOk result (out.new.items ≡ out.old.items ++ printed_arc m.now.entries (arc_at m.now.entries j)) }
+    ensures { OnOk result (out.new.items
+        ≡ out.old.items ++ printed_arc m.now.entries (arc_at m.now.entries j)) }
 {
     out.extend_from_slice(b"arc")?;
     append_word(out, m.arc_name(j))?;
@@ -108,7 +112,8 @@ fn append_arc(out: &mut Vec<u8>, m: &Model, j: u32) -> Result<(), AllocError>
 }
 
 fn append_nodes(out: &mut Vec<u8>, m: &Model) -> Result<(), AllocError>
-    ensures { OnOk result (out.new.items ≡ out.old.items ++ flat_map printed_node m.now.entries.nodes) }
+    ensures { OnOk result (out.new.items
+        ≡ out.old.items ++ flat_map printed_node m.now.entries.nodes) }
 {
     for i in 0..m.nodes() {
         append_node(out, m, i)?;
@@ -117,7 +122,8 @@ fn append_nodes(out: &mut Vec<u8>, m: &Model) -> Result<(), AllocError>
 }
 
 fn append_arcs(out: &mut Vec<u8>, m: &Model) -> Result<(), AllocError>
-    ensures { OnOk result (out.new.items ≡ out.old.items ++ flat_map (printed_arc m.now.entries) m.now.entries.arcs) }
+    ensures { OnOk result (out.new.items
+        ≡ out.old.items ++ flat_map (printed_arc m.now.entries) m.now.entries.arcs) }
 {
     for j in 0..m.arcs() {
         append_arc(out, m, j)?;
