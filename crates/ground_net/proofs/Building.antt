@@ -1,11 +1,11 @@
 -- A grounded network grows by its arcs in order: ground arc k is number k, arc k of the model is number N + k, with N the
 -- count of model nodes. What is built after all of them is the grounded network, and that is a network.
-use Rattle.std.proofs.Common.{◌≡◌, ℕ, suc, ◌+◌, ◌<◌, ◌≤◌, List, [], ◌∷◌, ◌++◌, length, take, get_or, slice_index_or, refl, sym, ap, ◌∙◌, add-one, arith}
+use Rattle.std.proofs.Common.{◌≡◌, ℕ, ◌+◌, ◌<◌, ◌≤◌, List, [], ◌∷◌, ◌++◌, length, take, get_or, slice_index_or, refl, sym, ap, ◌∙◌, add-one, arith}
 use Rattle.std.proofs.lemmas.List.{take_all, length-take}
 use Rattle.std.proofs.Math.Seq.{take-suc}
 use Rattle.theory.specs.declared.network.Arc.{Arc}
 use Rattle.theory.specs.CurveList.{Listing}
-use Rattle.theory.specs.Network.{Network, arc_at, curve}
+use Rattle.theory.specs.Network.{arc_at, curve}
 use Rattle.theory.specs.Grounded.{Entries, NodeEntry, ArcEntry, grounded, joining}
 use Rattle.theory.proofs.GroundedLaw.{length-grounded_arcs, length-grounded_curves, arc_at-ground, arc_at-model, curve-ground, curve-model, tail-ground, head-ground, grounded_is_network}
 use Rattle.net_incidence.specs.Graph.{Graph, network}

@@ -1,7 +1,6 @@
 -- How far a grounded network is built: all nodes, and the first k of its arcs with their curves.
 use Rattle.std.specs.Prelude.{◌≡◌, ℕ, ◌+◌, List, length, take}
 use Rattle.theory.specs.CurveList.{Listing}
-use Rattle.theory.specs.Network.{Network}
 use Rattle.theory.specs.Grounded.{Entries, grounded}
 use Rattle.net_incidence.specs.Graph.{Graph}
 
