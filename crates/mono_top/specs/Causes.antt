@@ -2,31 +2,42 @@
 use Rattle.std.specs.Prelude.{◌≡◌, ◌≢◌, ℕ, ◌≤◌, List, length, Option, Some, None, IsSome}
 use Rattle.outside_io.specs.Files.{Files, file_of}
 use Rattle.mono_top.specs.Reading.{file_most, AllReadable}
-use Rattle.mono_top.specs.Request.{Request, solve, files_of}
+use Rattle.mono_top.specs.Request.{Request, solve, show_curve, files_of}
 use Rattle.theory.specs.Grounded.{Entries}
 use Rattle.model_text.specs.declared.fault.FaultWord.{FaultWord}
+use Rattle.model_text.specs.Model.{place_of, arc_names}
 use Rattle.model_text.specs.ModelText.{Spells, IsFirstFault}
 use Rattle.mono_top.specs.Solves.{AreAllPoints}
 use Rattle.mono_top.specs.declared.status.Status.{Status}
 use Rattle.mono_top.specs.declared.status.Status.TheVariants.{Usage, Missing, ReadFault, WriteFault, TooLong}
 
--- a model file was asked for, it is readable, and P holds of its text
-abbrev pub AsksOfModel : Files → (List ℕ → Type 0) → Option Request → Type 0
-AsksOfModel files P None = ⊥
-AsksOfModel files P (Some (solve model)) =
-    (text : List ℕ) × (file_of files model ≡ Some text) × (length text ≤ file_most) × P text
+-- the file is readable, and P holds of its text
+abbrev pub IsFileWith : Files → List ℕ → (List ℕ → Type 0) → Type 0
+IsFileWith files name P = (text : List ℕ) × (file_of files name ≡ Some text) × (length text ≤ file_most) × P text
 
--- its text has this first fault
+-- a command asked for a model file: this first fault is its text's
 abbrev pub AsksFaulty : Files → ℕ → FaultWord → Option Request → Type 0
-AsksFaulty files line word request = AsksOfModel files (λ text. IsFirstFault text line word) request
+AsksFaulty files line word None = ⊥
+AsksFaulty files line word (Some (solve model)) = IsFileWith files model (λ text. IsFirstFault text line word)
+AsksFaulty files line word (Some (show_curve model arc)) = IsFileWith files model (λ text. IsFirstFault text line word)
 
--- its text spells this model, and every curve of it is a single point
+-- `solve` was asked for: the text spells this model, and every curve of it is a single point
 abbrev pub AsksSolvable : Files → Entries → Option Request → Type 0
-AsksSolvable files m request = AsksOfModel files (λ text. Spells text m × AreAllPoints m) request
+AsksSolvable files m None = ⊥
+AsksSolvable files m (Some (solve model)) = IsFileWith files model (λ text. Spells text m × AreAllPoints m)
+AsksSolvable files m (Some (show_curve model arc)) = ⊥
 
--- `solve` was asked for, and the text spells a model that has no answer yet
+-- `solve` was asked for: the text spells a model that has no answer yet
 abbrev pub AsksUnbuilt : Files → Option Request → Type 0
-AsksUnbuilt files request = AsksOfModel files (λ text. (m : Entries) × Spells text m × ¬ AreAllPoints m) request
+AsksUnbuilt files None = ⊥
+AsksUnbuilt files (Some (solve model)) = IsFileWith files model (λ text. (m : Entries) × Spells text m × ¬ AreAllPoints m)
+AsksUnbuilt files (Some (show_curve model arc)) = ⊥
+
+-- `curve` was asked for: the text spells a model without an arc of that name
+abbrev pub AsksUnknownArc : Files → Option Request → Type 0
+AsksUnknownArc files None = ⊥
+AsksUnknownArc files (Some (solve model)) = ⊥
+AsksUnknownArc files (Some (show_curve model arc)) = IsFileWith files model (λ text. (m : Entries) × Spells text m × (place_of (arc_names m) arc ≡ None))
 
 -- a command was asked for, and its files are readable
 abbrev pub IsAnswerable : Files → Option Request → Type 0

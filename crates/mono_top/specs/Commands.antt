@@ -1,7 +1,8 @@
 -- A command as the request that its words are.
-use Rattle.mono_top.specs.Request.{Request, solve}
+use Rattle.mono_top.specs.Request.{Request, solve, show_curve}
 use Rattle.mono_top.specs.declared.command.Command.{Command}
-use Rattle.mono_top.specs.declared.command.Command.TheVariants.{Solve}
+use Rattle.mono_top.specs.declared.command.Command.TheVariants.{Solve, Curve}
 
 abbrev pub request_by : Command → Request
 request_by (Solve model) = solve model.now
+request_by (Curve model arc) = show_curve model.now arc.now

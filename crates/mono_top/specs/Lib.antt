@@ -7,8 +7,10 @@ pub mod Fetch
 pub mod Forced
 pub mod Headline
 pub mod Lines
+pub mod OfModel
 pub mod Reading
 pub mod Replies
 pub mod Request
+pub mod ShowsCurve
 pub mod Solves
 pub mod Status

@@ -12,6 +12,9 @@ usage_line = codes "usage: monotropic COMMAND WORDS\n"
 abbrev pub unbuilt_line : List ℕ
 unbuilt_line = codes "unbuilt\n"
 
+abbrev pub unknown_arc_line : List ℕ
+unknown_arc_line = codes "unknown arc\n"
+
 abbrev pub missing_line : Place → List ℕ
 missing_line First = codes "missing file 1\n"
 missing_line Second = codes "missing file 2\n"

@@ -1,15 +1,13 @@
--- What `solve` answers to a model file that was read whole. A wider input changes these definitions and no clause.
+-- What `solve` answers to a model. A wider input changes these definitions and no clause.
 use Rattle.std.specs.Prelude.{◌≡◌, ◌⊎◌, ℕ, ◌<◌, List, length}
 use Rattle.theory.specs.Grounded.{Entries, IsModel, grounded}
 use Rattle.theory.specs.Certificate.{Certificate, IsValid}
 use Rattle.theory.specs.Certificate.Certificate.{optimal, cut, circuit}
-use Rattle.model_text.specs.declared.fault.FaultWord.{FaultWord}
 use Rattle.model_text.specs.Model.{node_at, arc_at}
-use Rattle.model_text.specs.ModelText.{Spells, IsFirstFault}
 use Rattle.cert_text.specs.CertificateText.{certificate_text}
-use Rattle.mono_top.specs.Lines.{unbuilt_line, model_line}
+use Rattle.mono_top.specs.Lines.{unbuilt_line}
 use Rattle.mono_top.specs.declared.status.Status.{Status}
-use Rattle.mono_top.specs.declared.status.Status.TheVariants.{Done, Cut, Circuit, ModelRefused, Unbuilt}
+use Rattle.mono_top.specs.declared.status.Status.TheVariants.{Done, Cut, Circuit, Unbuilt}
 
 -- every curve is a single point: the models that have an answer so far
 pub record AreAllPoints (m : Entries) : Type 0 where
@@ -34,9 +32,3 @@ abbrev pub SolvesModel : Entries → Status → List ℕ → Type 0
 SolvesModel m status text =
     AreAllPoints m × IsCertified m status text
     ⊎ (¬ AreAllPoints m) × (status ≡ Unbuilt) × (text ≡ unbuilt_line)
-
--- the line for the first fault of the text, or the answer to the model that it spells
-abbrev pub Solves : List ℕ → Status → List ℕ → Type 0
-Solves bytes status text =
-    ((line : ℕ) × (word : FaultWord) × IsFirstFault bytes line word × (status ≡ ModelRefused line word) × (text ≡ model_line line word))
-    ⊎ ((m : Entries) × Spells bytes m × SolvesModel m status text)

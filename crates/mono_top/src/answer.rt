@@ -9,6 +9,7 @@ ghost use Rattle.mono_top.specs.Request.{asked};
 use crate::command::{Command, command_of};
 use crate::lines;
 use crate::reply::Reply;
+use crate::show_curve::show_curve;
 use crate::solve::solve;
 use crate::status::Status;
 use outside_io::Shelf;
@@ -30,6 +31,7 @@ pub(crate) fn reply_to<S: Shelf>(
 {
     match command_of(words) {
         Some(Command::Solve { model }) => Ok(solve(alloc, shelf, model)?),
+        Some(Command::Curve { model, arc }) => Ok(show_curve(alloc, shelf, model, arc)?),
         None => Ok(Reply::refusal(Status::Usage, lines::usage())),
     }
 }

@@ -6,6 +6,7 @@ ghost use Rattle.mono_top.specs.Commands.{request_by};
 #[derive(Clone, Copy)]
 pub(crate) enum Command<'a> {
     Solve { model: &'a str },
+    Curve { model: &'a str, arc: &'a str },
 }
 
 /// The words' own bytes serve as names, so this takes no memory.
@@ -15,6 +16,10 @@ pub(crate) fn command_of(words: &[String]) -> Option<Command<'_>>
     match words {
         [command, model] if command.as_str() == "solve" => Some(Command::Solve {
             model: model.as_str(),
+        }),
+        [command, model, arc] if command.as_str() == "curve" => Some(Command::Curve {
+            model: model.as_str(),
+            arc: arc.as_str(),
         }),
         _ => None,
     }

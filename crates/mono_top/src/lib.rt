@@ -7,6 +7,7 @@ mod fetch;
 mod forced;
 mod lines;
 mod reply;
+mod show_curve;
 mod solve;
 mod status;
 mod top;

@@ -1,9 +1,13 @@
 // What a call is to write and how it is to end, decided before the first byte is written.
-ghost use Rattle.std.specs.Prelude.{◌≡◌};
+ghost use Rattle.std.specs.Prelude.{◌≡◌, IfOk};
 ghost use Rattle.mono_top.specs.Fetch.{text_of};
+ghost use Rattle.mono_top.specs.Lines.{model_line};
 
+use crate::lines;
 use crate::status::Status;
+use model_text::FaultWord;
 use outside_io::ByteText;
+use std::alloc::{AllocError, Global};
 
 /// A refusal is a line of the program's own, so it takes no memory.
 #[derive(Drop)]
@@ -38,5 +42,16 @@ impl Reply {
             status,
             text: Text::Fixed(line),
         }
+    }
+
+    /// The line for the first bad line of a model text.
+    pub fn bad_line(alloc: Global, line: u32, word: FaultWord) -> Result<Reply, AllocError>
+        ensures status { IfOk result (λ reply. reply.status ≡ Status.ModelRefused line word) }
+        ensures text { IfOk result (λ reply. text_of reply.text ≡ model_line line word) }
+    {
+        Ok(Reply {
+            status: Status::ModelRefused { line, word },
+            text: Text::Made(lines::model_line(alloc, line, word)?),
+        })
     }
 }

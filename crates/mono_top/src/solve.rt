@@ -7,7 +7,8 @@ ghost use Rattle.mono_top.specs.Fetch.{text_of};
 ghost use Rattle.mono_top.specs.Reading.{file_most};
 ghost use Rattle.mono_top.specs.Replies.{Replies};
 ghost use Rattle.mono_top.specs.Request.{solve as solve_request};
-ghost use Rattle.mono_top.specs.Solves.{Solves, SolvesModel, status_of};
+ghost use Rattle.mono_top.specs.OfModel.{OfModel};
+ghost use Rattle.mono_top.specs.Solves.{SolvesModel, status_of};
 
 use crate::fetch::{Fetched, fetch};
 use crate::forced::{are_all_points, forced_certificate};
@@ -40,14 +41,11 @@ pub(crate) fn solve<S: Shelf>(
 /// Answers a model text.
 fn answer_text(alloc: Global, text: &[u8]) -> Result<Reply, AllocError>
     requires { length text.now ≤ file_most }
-    ensures { IfOk result (λ reply. Solves text.now reply.status (text_of reply.text)) }
+    ensures { IfOk result (λ reply. OfModel SolvesModel text.now reply.status (text_of reply.text)) }
 {
     match read_model(alloc, text) {
         Ok(model) => Ok(answer_model(alloc, &model)?),
-        Err(ModelError::Fault { line, word }) => Ok(Reply {
-            status: Status::ModelRefused { line, word },
-            text: Text::Made(lines::model_line(alloc, line, word)?),
-        }),
+        Err(ModelError::Fault { line, word }) => Ok(Reply::bad_line(alloc, line, word)?),
         Err(ModelError::NoMemory) => Err(AllocError),
     }
 }

@@ -17,6 +17,7 @@ pub enum Status {
     WriteFault,
     NoMemory,
     TooLong,
+    UnknownArc,
     Unbuilt,
 }
 
@@ -36,6 +37,7 @@ impl Status {
             Status::WriteFault => 8,
             Status::NoMemory => 9,
             Status::TooLong => 10,
+            Status::UnknownArc => 12,
             Status::Unbuilt => 13,
         }
     }

@@ -5,7 +5,7 @@ ghost use Rattle.theory.specs.Grounded.{Entries};
 ghost use Rattle.model_text.specs.declared.fault.FaultWord.{FaultWord as Fault};
 ghost use Rattle.outside_io.specs.Counts.{Rose, Counts};
 ghost use Rattle.mono_top.specs.Answer.{Answers, outside_of};
-ghost use Rattle.mono_top.specs.Causes.{AsksFaulty, AsksSolvable, AsksUnbuilt, IsAnswerable, GoesThrough};
+ghost use Rattle.mono_top.specs.Causes.{AsksFaulty, AsksSolvable, AsksUnbuilt, AsksUnknownArc, IsAnswerable, GoesThrough};
 ghost use Rattle.mono_top.specs.Headline.{Concludes};
 ghost use Rattle.mono_top.specs.Ending.{WritesDue, WritesPart};
 ghost use Rattle.mono_top.specs.Reading.{ReachesMissing, ReachesPastMost, ReachesTooLong, HoldsFirst};
@@ -58,6 +58,10 @@ pub fn run<S: Shelf, K: Sink, L: Ledger>(
     ensures unbuilt_always { ForSome (S.holds shelf.old) (λ files. AsksUnbuilt files (asked words.now)
         → ¬ Rose (S.faults shelf.old) (S.faults shelf.new)
         → (result ≡ Status.Unbuilt) ⊎ (result ≡ Status.NoMemory) ⊎ (result ≡ Status.WriteFault)) }
+    ensures unknown_arc { result ≡ Status.UnknownArc → ForSome (S.holds shelf.old) (λ files. AsksUnknownArc files (asked words.now)) }
+    ensures unknown_arc_always { ForSome (S.holds shelf.old) (λ files. AsksUnknownArc files (asked words.now)
+        → ¬ Rose (S.faults shelf.old) (S.faults shelf.new)
+        → (result ≡ Status.UnknownArc) ⊎ (result ≡ Status.NoMemory) ⊎ (result ≡ Status.WriteFault)) }
     ensures write_fault { result ≡ Status.WriteFault → Rose (K.faults out.old) (K.faults out.new) }
     ensures no_memory { result ≡ Status.NoMemory → IsSome (asked words.now) }
     ensures first_held { result ≡ Status.NoMemory → ForSome (S.holds shelf.old) (λ files. HoldsFirst files (files_of (asked words.now))) }

@@ -18,3 +18,16 @@ returns-in_ok-solve-in-Some-Solve-clause-due g c =
     (Rose (g.S.Shelf.misses c.args.shelf.now) (g.S.Shelf.misses c.solve.new.shelf))
     (Rose (g.S.Shelf.faults c.args.shelf.now) (g.S.Shelf.faults c.solve.new.shelf)))
     c.in_ok-solve-in-Some-Solve.field-0.status (text_of c.in_ok-solve-in-Some-Solve.field-0.text) answers
+
+pub returns-in_ok-show_curve-in-Some-Curve-clause-due : goal.returns-in_ok-show_curve-in-Some-Curve-clause-due
+returns-in_ok-show_curve-in-Some-Curve-clause-due g c =
+    let answers : Answers (asked c.args.words.now)
+    (outside_of (g.S.Shelf.holds c.args.shelf.now) (g.S.Shelf.rest c.show_curve.new.shelf)
+    (Rose (g.S.Shelf.misses c.args.shelf.now) (g.S.Shelf.misses c.show_curve.new.shelf))
+    (Rose (g.S.Shelf.faults c.args.shelf.now) (g.S.Shelf.faults c.show_curve.new.shelf)))
+    c.in_ok-show_curve-in-Some-Curve.field-0.status (text_of c.in_ok-show_curve-in-Some-Curve.field-0.text) = search rules in
+    due (asked c.args.words.now)
+    (outside_of (g.S.Shelf.holds c.args.shelf.now) (g.S.Shelf.rest c.show_curve.new.shelf)
+    (Rose (g.S.Shelf.misses c.args.shelf.now) (g.S.Shelf.misses c.show_curve.new.shelf))
+    (Rose (g.S.Shelf.faults c.args.shelf.now) (g.S.Shelf.faults c.show_curve.new.shelf)))
+    c.in_ok-show_curve-in-Some-Curve.field-0.status (text_of c.in_ok-show_curve-in-Some-Curve.field-0.text) answers
