@@ -1,0 +1,4 @@
+-- Readings of the views:
+pub mod ConjugateReadings
+pub mod ReadingBounds
+pub mod ReversedReadings

@@ -1,0 +1,3 @@
+-- What the derived lists keep, as the traits ask it:
+pub mod ConjugateFacts
+pub mod ReversedFacts
