@@ -2,3 +2,4 @@
 pub mod ConjugateReadings
 pub mod ReadingBounds
 pub mod ReversedReadings
+pub mod FlatReadings

@@ -1,3 +1,6 @@
 -- What the derived lists keep, as the traits ask it:
 pub mod ConjugateFacts
 pub mod ReversedFacts
+pub mod ZeroCostFacts
+-- Readings that a view makes of its own:
+pub mod ZeroCostReadings

@@ -4,6 +4,8 @@
 mod conjugate;
 mod ends;
 mod reversed;
+mod zero_cost;
 
 pub use conjugate::Conjugate;
 pub use reversed::Reversed;
+pub use zero_cost::ZeroCost;
