@@ -3,3 +3,4 @@ pub mod ConjugateReadings
 pub mod ReadingBounds
 pub mod ReversedReadings
 pub mod FlatReadings
+pub mod FlowOf

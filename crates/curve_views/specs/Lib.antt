@@ -4,3 +4,4 @@ pub mod ReversedFacts
 pub mod ZeroCostFacts
 -- Readings that a view makes of its own:
 pub mod ZeroCostReadings
+pub mod FlowBetween

@@ -2,10 +2,12 @@
 #![tactic(auto)]
 
 mod conjugate;
+mod dual;
 mod ends;
 mod reversed;
 mod zero_cost;
 
 pub use conjugate::Conjugate;
+pub use dual::dual_at;
 pub use reversed::Reversed;
 pub use zero_cost::ZeroCost;
