@@ -1,19 +1,12 @@
 -- Readings of the conjugate list. A pair of the list, swapped, is a pair of the conjugate; and since the conjugate of the
 -- conjugate is the list, the other way round too. So the range at a tension of the list gives the slopes of the conjugate
 -- at that number, and its slopes the range.
-use Rattle.std.proofs.Common.{◌≡◌, ℕ, zero, suc, ◌+◌, ◌*◌, ◌<◌, ◌≤◌, ℤ, pos, List, [], ◌∷◌, length, refl, arith}
-use Rattle.std.specs.Prelude.{◌↔◌}
-use Rattle.std.proofs.lemmas.Int.{ints}
+use Rattle.std.proofs.Common.{ℤ, List}
 use Rattle.theory.specs.declared.ext.Ext.{Ext}
-use Rattle.theory.specs.declared.ext.Ext.TheVariants.{MinusInf, At, PlusInf}
-use Rattle.theory.specs.Ends.{whole}
-use Rattle.theory.specs.CurveList.{IsCurveList, item}
+use Rattle.theory.specs.CurveList.{IsCurveList}
 use Rattle.theory.specs.OnCurve.{IsOnCurve}
-use Rattle.theory.specs.Views.{turned_front, turned_back, conjugate_items}
+use Rattle.theory.specs.Views.{conjugate_items}
 use Rattle.theory.specs.Readings.{IsSlopes, IsRange}
-use Rattle.theory.specs.Limits.{AreWithin, number_most}
-use Rattle.theory.specs.Certificate.{IsWithin}
-use Rattle.theory.proofs.Bounds.{item_within, length-short}
 use Rattle.theory.proofs.ConjugateList.{conjugate-is_list, conjugate-pair, conjugate-items_twice}
 
 -- ---- pairs both ways

@@ -2,19 +2,17 @@
 -- A pair is a flow not outside the two ends and a tension that is not below 0 past the first end, and not above 0
 -- before the last. So the slope on a side of a flow goes by which ends that side is past, and the range at a tension
 -- by the tension's sign.
-use Rattle.std.proofs.Common.{◌≡◌, ℕ, zero, suc, ◌+◌, ◌*◌, ◌/◌, ◌<◌, ℤ, pos, Bool, true, false, not, List, [], ◌∷◌, length, refl, sym, arith}
-use Rattle.std.specs.Prelude.{◌↔◌, if◌then◌else◌}
-use Rattle.std.proofs.lemmas.Int.{ints}
+use Rattle.std.proofs.Common.{◌≡◌, ℕ, zero, suc, ◌+◌, ◌*◌, ◌/◌, ◌<◌, ℤ, pos, Bool, true, false, not, List, [], ◌∷◌, length, refl, arith}
+use Rattle.std.specs.Prelude.{if◌then◌else◌}
 use Rattle.theory.specs.declared.ext.Ext.{Ext}
 use Rattle.theory.specs.declared.ext.Ext.TheVariants.{MinusInf, At, PlusInf}
-use Rattle.theory.specs.Ends.{is_below, IsBelow, is_finite}
+use Rattle.theory.specs.Ends.{is_below, IsBelow}
 use Rattle.theory.specs.CurveList.{IsCurveList, item, first, last}
 use Rattle.theory.specs.Span.{span_low, span_high}
-use Rattle.theory.specs.OnCurve.{IsOnCurve}
 use Rattle.theory.specs.Views.{zero_cost_items}
 use Rattle.theory.specs.Readings.{IsUnder, IsOver, AreBoth, IsSlopes, IsRange}
 use Rattle.theory.proofs.Ends.{below_trans}
-use Rattle.theory.proofs.Shape.{Shape, Rest, ends, single, long, shape_by_place, place_of_shape}
+use Rattle.theory.proofs.Shape.{Shape, ends, single, long, shape_by_place, place_of_shape}
 use Rattle.theory.proofs.ZeroCost.{below_last}
 use Rattle.mono_curve.proofs.Stairs.{false_unless, below_asym}
 use Rattle.mono_curve.proofs.ReadOff.{IsPair, pair_of_curve, curve_of_pair, under_not_above, not_above_under, over_not_below, not_below_over, clash}

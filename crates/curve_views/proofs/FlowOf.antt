@@ -1,20 +1,26 @@
 -- A flow of a tension, by the ends of its range, and what it tells of the conjugate cost.
-use Rattle.std.proofs.Common.{◌≡◌, ℕ, ◌+◌, ◌*◌, ◌≤◌, ℤ, pos, ◌+ℤ◌, ◌≤ℤ◌, List, arith}
+use Rattle.std.proofs.Common.{◌≡◌, ℕ, ℤ, pos, ◌+ℤ◌, List, arith}
 use Rattle.std.specs.Prelude.{◌-ℤ◌, ◌*ℤ◌}
 use Rattle.std.proofs.lemmas.Int.{ints}
 use Rattle.theory.specs.declared.ext.Ext.{Ext}
 use Rattle.theory.specs.declared.ext.Ext.TheVariants.{MinusInf, At, PlusInf}
 use Rattle.theory.specs.Ends.{whole}
 use Rattle.theory.specs.CurveList.{IsCurveList, Listing}
-use Rattle.theory.specs.Span.{InSpan}
+use Rattle.theory.specs.Domain.{InDomain, rest_point}
+use Rattle.theory.specs.Span.{InSpan, rest_tension}
+use Rattle.theory.specs.Views.{conjugate_items}
 use Rattle.theory.specs.Cost.{cost}
 use Rattle.theory.specs.ConjugateCost.{conjugate_cost}
 use Rattle.theory.specs.OnCurve.{IsOnCurve}
 use Rattle.theory.specs.Readings.{IsUnder, IsOver, IsRange}
 use Rattle.theory.specs.Limits.{AreWithin}
 use Rattle.theory.specs.Certificate.{IsWithin}
+use Rattle.theory.proofs.Rings.{one_times}
+use Rattle.theory.proofs.Shape.{shape_by_place}
 use Rattle.theory.proofs.Pairs.{flow_of_tension}
-use Rattle.theory.proofs.Equality.{equal_on_curve}
+use Rattle.theory.proofs.Equality.{equal_on_curve, rest_in_domain}
+use Rattle.theory.proofs.ConjugateList.{conjugate-is_list}
+use Rattle.theory.proofs.ConjugateCost.{rest_point-conjugate}
 use Rattle.curve_views.specs.FlowBetween.{flow_between}
 use Rattle.curve_views.proofs.ReadingBounds.{range-within}
 
@@ -55,3 +61,12 @@ conjugate_cost-pair c x v list pair = let e = equal_on_curve 1 c x v list pair i
   where
     moved : (xv f h : ℤ) → pos 1 *ℤ f +ℤ pos 1 *ℤ h ≡ xv → xv -ℤ f ≡ h
     moved xv f h e = omega (arith, ints)
+
+-- ---- where the conjugate rests
+
+pub rest_tension-in_span : (items : List Ext) → IsCurveList items → InSpan 1 items (rest_tension items)
+rest_tension-in_span items list =
+    let ends = conjugate-is_list items list in
+    let inside : InDomain 1 (conjugate_items items) (rest_point (conjugate_items items)) =
+        rw (one_times (rest_point (conjugate_items items))) at (rest_in_domain 1 (shape_by_place (conjugate_items items) ends.is_list)) in
+    rw (rest_point-conjugate items list, ends.domain_low, ends.domain_high) at inside

@@ -4,3 +4,4 @@ pub mod ReadingBounds
 pub mod ReversedReadings
 pub mod FlatReadings
 pub mod FlowOf
+pub mod TurnedList

@@ -1,14 +1,14 @@
 -- The finite answers of a reading lie within the limit of the list's numbers. Were the slope on the left of a flow beyond
 -- all slopes of the list, the next tension below it would fit every piece too, and so be a pair with the flow; but it is
 -- not between the two slopes. In the same way the slope on the right. A range is the slopes of the conjugate.
-use Rattle.std.proofs.Common.{◌≡◌, ℕ, ◌+◌, ◌-◌, ◌*◌, ◌<◌, ◌≤◌, ℤ, pos, neg_ℤ, ◌+ℤ◌, ◌≤ℤ◌, ◌<ℤ◌, Bool, true, false, List, length, sym, ◌∙◌, refl, arith}
-use Rattle.std.specs.Prelude.{◌-ℤ◌, ◌*ℤ◌}
+use Rattle.std.proofs.Common.{◌≡◌, ℕ, ◌+◌, ◌-◌, ◌*◌, ℤ, pos, neg_ℤ, ◌+ℤ◌, ◌≤ℤ◌, ◌<ℤ◌, Bool, true, false, List, length, sym, ◌∙◌, refl, arith}
+use Rattle.std.specs.Prelude.{◌-ℤ◌}
 use Rattle.std.proofs.lemmas.Int.{ints, by_lt_z}
 use Rattle.theory.specs.declared.ext.Ext.{Ext}
 use Rattle.theory.specs.declared.ext.Ext.TheVariants.{MinusInf, At, PlusInf}
 use Rattle.theory.specs.Sums.{Each}
-use Rattle.theory.specs.Ends.{whole, is_below, IsBelow}
-use Rattle.theory.specs.CurveList.{IsCurveList, Piece, pieces, item, first, last}
+use Rattle.theory.specs.Ends.{whole, is_below}
+use Rattle.theory.specs.CurveList.{IsCurveList, Piece, pieces, first, last}
 use Rattle.theory.specs.Span.{span_low, span_high}
 use Rattle.theory.specs.OnCurve.{FitsPiece, IsOnCurve}
 use Rattle.theory.specs.Views.{conjugate_items}

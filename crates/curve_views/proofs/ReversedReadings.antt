@@ -1,8 +1,7 @@
 -- Readings of the reversed list. The opposites of a pair are a pair of the reversed list, and since the reversed of the
 -- reversed is the list, the other way round too. So a reading of the list at the opposite number, its two answers
 -- negated and changed over, is the reading of the reversed list.
-use Rattle.std.proofs.Common.{◌≡◌, ℕ, ℤ, pos, neg_ℤ, ◌≤ℤ◌, true, false, List, refl, sym, ap, ◌∙◌, arith}
-use Rattle.std.specs.Prelude.{◌↔◌}
+use Rattle.std.proofs.Common.{◌≡◌, ℤ, neg_ℤ, true, false, List, refl, sym, ap, arith}
 use Rattle.std.proofs.lemmas.Int.{ints}
 use Rattle.std.proofs.Math.IntN.{neg_ℤ-neg_ℤ}
 use Rattle.theory.specs.declared.ext.Ext.{Ext}

@@ -1,11 +1,11 @@
 -- The numbers of the zero-cost list are 0 and ends of the list.
-use Rattle.std.specs.Prelude.{ℕ, zero, suc, ◌+◌, ◌-◌, ◌*◌, ◌<◌, ◌≤◌, ℤ, pos, List, [], ◌∷◌, length}
+use Rattle.std.specs.Prelude.{ℕ, zero, suc, ◌+◌, ◌-◌, ◌*◌, ◌≤◌, pos, List, [], ◌∷◌, length}
 use Rattle.std.proofs.Common.{arith}
 use Rattle.std.proofs.lemmas.Int.{ints}
 use Rattle.theory.specs.declared.ext.Ext.{Ext}
 use Rattle.theory.specs.declared.ext.Ext.TheVariants.{At}
 use Rattle.theory.specs.Ends.{whole}
-use Rattle.theory.specs.CurveList.{IsCurveList, item, last}
+use Rattle.theory.specs.CurveList.{IsCurveList, last}
 use Rattle.theory.specs.Views.{zero_cost_items}
 use Rattle.theory.specs.Limits.{AreWithin, number_most}
 use Rattle.theory.specs.Certificate.{IsWithin}

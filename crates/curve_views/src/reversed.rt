@@ -1,10 +1,10 @@
 // The curve of the cost at the opposite flow.
 ghost use Rattle.std.specs.Prelude.{◌≡◌, ◌+◌, ◌*◌, ◌≤◌};
-ghost use Rattle.theory.specs.Views.{reversed_items};
+ghost use Rattle.theory.specs.Views.{reversed_items, reversed_of};
 ghost use Rattle.theory.specs.ViewLaws.{ReversedTwiceLaw};
 
-use crate::ends::{opposite, opposite_ends};
-use mono_curve::{Monotone, Steps};
+use crate::ends::{opposite, opposite_end, opposite_ends};
+use mono_curve::{Listed, Monotone, Steps};
 use std::sync::ledger::Ledger;
 use theory::Ext;
 
@@ -23,6 +23,36 @@ impl<'a, C> Reversed<'a, C> {
         ensures twice { ReversedTwiceLaw }
     {
         Reversed { curve }
+    }
+}
+
+impl<'a, C: Listed> Listed for Reversed<'a, C> {
+    ghost use Rattle.theory.proofs.ReversedList.{reversed-is_list};
+    ghost use Rattle.curve_views.specs.ReversedFacts.{reversed_within, reversed_short};
+    ghost use Rattle.curve_views.specs.ListedFacts.{reversed_conjugate_base_within};
+
+    ghost listing = { λ s. reversed_of (C.listing s.curve.now) };
+
+    ghost is_list = { λ s. reversed-is_list (C.listing s.curve.now).items (C.is_list s.curve.now) };
+
+    ghost items_within = { λ s. reversed_within (C.listing s.curve.now).items (C.items_within s.curve.now) };
+
+    ghost is_short = { λ s. reversed_short (C.listing s.curve.now).items (C.is_list s.curve.now) (C.items_within s.curve.now) };
+
+    ghost base_within = { λ s. C.base_within s.curve.now };
+
+    ghost conjugate_base_within = { λ s. reversed_conjugate_base_within (C.listing s.curve.now) (C.is_list s.curve.now) (C.conjugate_base_within s.curve.now) };
+
+    fn len(&self) -> usize {
+        self.curve.len()
+    }
+
+    fn item(&self, i: usize) -> Ext {
+        opposite_end(self.curve.item(self.curve.len() - 1 - i))
+    }
+
+    fn base(&self) -> i128 {
+        self.curve.base()
     }
 }
 

@@ -1,9 +1,7 @@
 use Rattle.std.proofs.Common.{to_z-of_z, FitsSigned, rules}
 use Rattle.std.specs.Int.{w64}
 use Rattle.theory.specs.Limits.{number_most}
-use Rattle.theory.specs.Readings.{IsRange}
 use Rattle.curve_views.proofs.FlowOf.{pair_of_range, flow_between-within}
-use Rattle.curve_views.proofs.dual.flow_at.Given.{Over}
 use Rattle.curve_views.proofs.dual.flow_at.Goals as goal
 
 pub returns-clause-pair : goal.returns-clause-pair

@@ -1,6 +1,6 @@
 use Rattle.std.proofs.Common.{sym, ◌∙◌, arith, to_z-of_z}
 use Rattle.theory.specs.declared.ext.Ext.TheVariants.{At}
-use Rattle.mono_curve.proofs.Stairs.{later_not_below, not_true}
+use Rattle.mono_curve.proofs.Stairs.{later_not_below}
 use Rattle.curve_views.proofs.dual.slopes_below.Goals as goal
 
 pub returns-then-not-precedes : goal.returns-then-not-precedes
