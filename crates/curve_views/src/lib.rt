@@ -1,0 +1,13 @@
+// Curves derived from a curve: each view borrows the curve and takes no memory.
+#![tactic(auto)]
+
+mod conjugate;
+mod dual;
+mod ends;
+mod reversed;
+mod zero_cost;
+
+pub use conjugate::Conjugate;
+pub use dual::dual_at;
+pub use reversed::Reversed;
+pub use zero_cost::ZeroCost;
