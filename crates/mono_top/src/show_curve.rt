@@ -14,6 +14,7 @@ use crate::fetch::{Fetched, fetch};
 use crate::lines::{self, Place};
 use crate::reply::{Reply, Text};
 use crate::status::Status;
+use curve_views::Conjugate;
 use model_text::{Model, ModelError, append_list, append_number, append_word, read_model};
 use mono_curve::{Curve, Listed};
 use outside_io::{ByteText, Shelf};
@@ -66,12 +67,12 @@ fn answer_model(alloc: Global, model: &Model, arc: &str) -> Result<Reply, AllocE
 fn print_curve(alloc: Global, curve: &Curve) -> Result<ByteText, AllocError>
     ensures { IfOk result (λ text. text ≡ curve_text curve.now.listing) }
 {
-    let _alloc = alloc;
-    let _length = curve.len();
-    Err(AllocError)
+    let mut out = Vec::new(alloc);
+    append_listing(&mut out, b"curve", curve)?;
+    append_listing(&mut out, b"conjugate", &Conjugate::of(curve))?;
+    Ok(ByteText::of_vec(out))
 }
 
-#[allow(dead_code)]
 fn append_listing<C: Listed>(out: &mut Vec<u8>, keyword: &[u8], curve: &C) -> Result<(), AllocError>
     ensures { OnOk result (out.new.items ≡ out.old.items ++ listing_line keyword.now (C.listing curve.now)) }
 {
