@@ -4,3 +4,9 @@ pub mod LineEnds
 pub mod WordEnds
 pub mod Plain
 pub mod PieceLaws
+pub mod Digits
+pub mod Differences
+pub mod Readings
+pub mod StepLines
+pub mod Wholes
+pub mod Nearest

@@ -61,7 +61,7 @@ alike_line text line mine own other whole_line whole_mine goes (suc k) same =
     let on = goes (sym parts.0) in
     let text_is = pieces-whole text line whole_line (sym parts.0) in
     let left : take k (pieces other) ≡ take k (pieces (after_line text)) =
-        parts.1 ∙ ap (take k) (both _ _ _ _ (sym t.1 ∙ text_is)).1 in
+    parts.1 ∙ ap (take k) (both _ _ _ _ (sym t.1 ∙ text_is)).1 in
     ap (take (suc k)) (whole_mine.first own) ∙ ap (λ l. l ∷ take k (pieces own)) on.0 ∙ ap (λ l. line ∷ l) (on.1 k left)
     ∙ sym (ap (take (suc k)) text_is)
   where
@@ -75,4 +75,4 @@ alike_texts zero mine texts wholes text same own other rest = rest
 alike_texts (suc n) mine texts wholes text same own other rest =
     let here = alike_line (after n text) (texts n) (mine n) own other (wholes n (omega arith)).1 (wholes n (omega arith)).0 (λ is. (same n (omega arith) is, rest)) in
     rw (append_assoc (texts_below n mine) (mine n) own, append_assoc (texts_below n texts) (texts n) other)
-      (alike_texts n mine texts (λ j below. wholes j (omega arith)) text (λ j below. same j (omega arith)) (mine n ++ own) (texts n ++ other) here)
+    (alike_texts n mine texts (λ j below. wholes j (omega arith)) text (λ j below. same j (omega arith)) (mine n ++ own) (texts n ++ other) here)

@@ -23,9 +23,10 @@ module _ (bytes front word : List ℕ) (plain : IsPlain word) (is : bytes ≡ fr
   pub space_is : (place : ℕ) → place < length bytes → get_or bytes place 0 ≡ 32 → ((k : ℕ) → place < k → k < length bytes → get_or bytes k 0 ≢ 32)
       → place ≡ length front
   space_is place here space none = elim (cases_order place (length front)) [
-      inl same ↦ same
+    | inl same ↦ same
     | inr (inl below) ↦ absurd (none (length front) below longer seam)
-    | inr (inr above) ↦ absurd (in_word (place - length front - 1) (omega arith)) ]
+    | inr (inr above) ↦ absurd (in_word (place - length front - 1) (omega arith))
+  ]
     where
       in_word : (j : ℕ) → place ≡ length front + suc j → ⊥
       in_word j e =

@@ -1,6 +1,8 @@
 -- What the reader knows of the certificate that it reads from a text before it compares the two.
 use Rattle.std.specs.Prelude.{◌≡◌, ◌≢◌, ℕ, zero, suc, ◌+◌, ◌-◌, ◌^◌, ◌<◌, ◌≤◌, ◌==◌, nat_lt, if◌then◌else◌, ℤ, pos, Bool, Option, List, [], ◌∷◌, ◌++◌, length, take, true}
+use Rattle.std.specs.Prelude.{codes}
 use Rattle.std.specs.List.{list_all}
+use Rattle.std.specs.Option.{option_map}
 use Rattle.std.specs.Str.{bytes_eq}
 use Rattle.theory.specs.declared.network.Step.{Step}
 use Rattle.theory.specs.Network.{«at»}
@@ -9,6 +11,7 @@ use Rattle.theory.specs.Circuit.{step}
 use Rattle.theory.specs.Grounded.{Entries, grounded}
 use Rattle.theory.specs.Certificate.{Certificate, Fits, IsWithin, flow_most, sum_most}
 use Rattle.theory.specs.Certificate.Certificate.{optimal, cut, circuit}
+use Rattle.model_text.specs.Model.{node_names, arc_names, place_of}
 use Rattle.model_text.specs.Printed.{printed_number}
 use Rattle.cert_text.specs.CertificateText.{certificate_text, node_line, step_line}
 use Rattle.cert_text.specs.BadLine.{pieces}
@@ -58,6 +61,12 @@ pub record IsStepRead (m : Entries) (line : List ℕ) (s : Step) : Type 0 where
 
 abbrev pub IsNoStep : Entries → List ℕ → Type 0
 IsNoStep m line = (t : Step) → t.arc.0 < length m.nodes + length m.arcs → line ≢ step_line m t
+
+-- the grounded arc `KIND NAME`: a node's for the kind `node`, else one of the model
+abbrev pub named_arc : Entries → List ℕ → List ℕ → Option ℕ
+named_arc m kind name =
+    if bytes_eq kind (codes "node") then place_of (node_names m) name
+    else option_map (λ j. length m.nodes + j) (place_of (arc_names m) name)
 
 -- what is left of a text when the nodes below i have taken their lines: each takes its own line where that is next
 abbrev pub left_at : Entries → List ℕ → ℕ → List ℕ

@@ -1,6 +1,6 @@
 // The certificate that a text would be that of, read from the ends of its lines alone.
 ghost use Rattle.std.specs.Prelude.{◌≡◌, ◌+◌, ◌^◌, ◌<◌, ◌≤◌, [], ◌∷◌, pos, length, IfOk, OnOk, MatchOption};
-ghost use Rattle.cert_text.specs.Candidate.{after, IsCandidate, IsOptimalRead, IsCutRead, IsCircuitRead, AreFlowsRead, ArePairsRead, IsSideRead, IsStepRead, IsNoStep, AreStepsRead, line_at};
+ghost use Rattle.cert_text.specs.Candidate.{after, IsCandidate, IsOptimalRead, IsCutRead, IsCircuitRead, AreFlowsRead, ArePairsRead, IsSideRead, IsStepRead, IsNoStep, named_arc, AreStepsRead, line_at};
 ghost use Rattle.cert_text.specs.Shown.{shown};
 
 use crate::certificate::Certificate;
@@ -154,13 +154,20 @@ fn step_of(m: &Model, line: &[u8]) -> Option<Step>
     }
     let (front, name) = split_last_word(content(line));
     let (sign, kind) = split_last_word(front);
-    let arc = if kind == b"node".as_slice() {
-        m.node_of(name)?
-    } else {
-        m.nodes() + m.arc_of(name)?
-    };
+    let arc = named_arc(m, kind, name)?;
     Some(Step {
         arc: ArcId(arc),
         forward: sign == b"step +".as_slice(),
     })
+}
+
+/// The grounded arc `KIND NAME`: that of a node for the kind `node`, else an arc of the model.
+fn named_arc(m: &Model, kind: &[u8], name: &[u8]) -> Option<u32>
+    ensures { result ≡ named_arc m.now.entries kind.now name.now }
+{
+    if kind == b"node".as_slice() {
+        m.node_of(name)
+    } else {
+        Some(m.nodes() + m.arc_of(name)?)
+    }
 }
