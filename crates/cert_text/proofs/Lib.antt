@@ -10,3 +10,4 @@ pub mod Readings
 pub mod StepLines
 pub mod Wholes
 pub mod Nearest
+pub mod ByKind

@@ -23,17 +23,17 @@ use Rattle.cert_text.proofs.Wholes.{whole_head, whole_number, whole_potential, w
 
 -- ---- lines with one number
 
-number_read : (keyword line : List ℕ) (z y : ℤ) → IsLastNumber sum_most line z → IsWithin sum_most y → line ≡ number_line keyword y
+pub number_read : (keyword line : List ℕ) (z y : ℤ) → IsLastNumber sum_most line z → IsWithin sum_most y → line ≡ number_line keyword y
     → number_line keyword z ≡ number_line keyword y
 number_read keyword line z y read within is = ap (number_line keyword) (read.found keyword y within (is ∙ number_words keyword y))
 
-flow_read : (m : Entries) (line : List ℕ) (x y : List ℤ) (j : ℕ) → IsLastNumber flow_most line («at» x j) → IsWithin flow_most («at» y j)
+pub flow_read : (m : Entries) (line : List ℕ) (x y : List ℤ) (j : ℕ) → IsLastNumber flow_most line («at» x j) → IsWithin flow_most («at» y j)
     → line ≡ flow_line m y j → flow_line m x j ≡ flow_line m y j
 flow_read m line x y j read within is =
     let line_of : ℤ → List ℕ = λ z. printed_line (arc_name m j) (printed_number z ∷ []) in
     ap line_of (read.found (arc_name m j) («at» y j) within (is ∙ flow_words m y j))
 
-pair_read : (m : Entries) (line : List ℕ) (u x v y : List ℤ) (i : ℕ) → AreLastNumbers line («at» u (i + 1)) («at» x i)
+pub pair_read : (m : Entries) (line : List ℕ) (u x v y : List ℤ) (i : ℕ) → AreLastNumbers line («at» u (i + 1)) («at» x i)
     → IsWithin flow_most («at» v (i + 1)) → IsWithin flow_most («at» y i) → line ≡ potential_line m v y i → potential_line m u x i ≡ potential_line m v y i
 pair_read m line u x v y i read v_within y_within is =
     let line_of : ℤ → ℤ → List ℕ = λ w z. printed_line (codes "node") (node_name m (i + 1) ∷ printed_number w ∷ printed_number z ∷ []) in
@@ -59,7 +59,7 @@ module _ (m : Entries) (formed : IsWellFormed m) where
       ((bytes_decides (first_line (left_at m text n)) (node_line m n)).1 (same ∙ first-whole (node_line m n) rest (whole_node m formed n here))))
   side_cases text n here false false test own rest apart on = on
 
-  alike_sides : (text : List ℕ) (side other : List Bool) (n : ℕ) → n ≤ length m.nodes + 1 → ((i : ℕ) → i < n → holds side i ≡ takes m text i)
+  pub alike_sides : (text : List ℕ) (side other : List Bool) (n : ℕ) → n ≤ length m.nodes + 1 → ((i : ℕ) → i < n → holds side i ≡ takes m text i)
       → (own rest : List ℕ) → ((i : ℕ) → i < n → first_line rest ≢ node_line m i) → IsAsLike (left_at m text n) own rest
       → IsAsLike text (texts_below n (side_line m side) ++ own) (texts_below n (side_line m other) ++ rest)
   alike_sides text side other zero most read own rest apart on = on
@@ -78,7 +78,7 @@ module _ (m : Entries) (formed : IsWellFormed m) where
 
   -- ---- steps
 
-  alike_steps : (walk other : List Step) (text : List ℕ) → ((k : ℕ) → k < length walk → IsStepRead m (line_at text k) (step walk k))
+  pub alike_steps : (walk other : List Step) (text : List ℕ) → ((k : ℕ) → k < length walk → IsStepRead m (line_at text k) (step walk k))
       → IsNoStep m (line_at text (length walk)) → ((k : ℕ) → k < length other → (step other k).arc.0 < length m.nodes + length m.arcs)
       → IsAsLike text (flat_map (step_line m) walk) (flat_map (step_line m) other)
   alike_steps [] [] text read ended there = λ k same. same
