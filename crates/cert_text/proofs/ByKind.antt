@@ -1,22 +1,21 @@
 -- What was read is a candidate, kind by kind. The head says the kind: where the text's own isn't that of another
 -- certificate, the two differ in the first line. Else the lines are compared one after the other.
-use Rattle.std.proofs.Common.{◌≡◌, ◌≢◌, ℕ, zero, suc, ◌+◌, ◌-◌, ◌<◌, ◌≤◌, Bool, true, false, bytes_eq, List, [], ◌∷◌, ◌++◌, length, refl, sym, ap, subst, ◌∙◌, arith, append-nil, append_assoc, add-one, add_comm, zero-add, ⊎_elim}
-use Rattle.std.specs.Prelude.{ℤ, pos, codes, Result, Ok, Err, IfOk}
-use Rattle.std.specs.List.{flat_map, list_all}
+use Rattle.std.proofs.Common.{◌≡◌, ◌≢◌, ℕ, zero, suc, ◌+◌, ◌-◌, ◌<◌, ◌≤◌, Bool, List, [], ◌++◌, length, refl, sym, ap, subst, ◌∙◌, arith, append-nil, append_assoc, add-one, add_comm, zero-add, ⊎_elim}
+use Rattle.std.specs.Prelude.{ℤ, codes, Result, Ok, Err, IfOk}
+use Rattle.std.specs.List.{flat_map}
 use Rattle.std.proofs.lemmas.Bool.{cases_lt}
 use Rattle.std.proofs.lemmas.Int.{ints}
 use Rattle.theory.specs.declared.network.Step.{Step}
 use Rattle.theory.specs.Network.{«at»}
-use Rattle.theory.specs.Circuit.{step}
 use Rattle.theory.specs.Grounded.{Entries, grounded}
-use Rattle.theory.specs.Certificate.{Certificate, Fits, IsWithin, flow_most, sum_most, AreNumbers, IsPotentialOf, IsWalkOf}
+use Rattle.theory.specs.Certificate.{Certificate, Fits, IsWithin, flow_most, sum_most, AreNumbers, IsPotentialOf}
 use Rattle.theory.specs.Certificate.Certificate.{optimal, cut, circuit}
 use Rattle.theory.proofs.GroundedLaw.{length-grounded_arcs}
 use Rattle.model_text.specs.Model.{IsWellFormed}
 use Rattle.cert_text.specs.CertificateText.{certificate_text, texts_below, head_line, number_line, potential_line, flow_line, side_line, step_line, supply_lines, arc_lines}
-use Rattle.cert_text.specs.Candidate.{first_line, after_line, after, line_at, IsAsLike, IsCandidate, IsLastNumber, AreLastNumbers, AreFlowsRead, ArePairsRead, IsSideRead, AreStepsRead, IsOptimalRead, IsCutRead, IsCircuitRead}
+use Rattle.cert_text.specs.Candidate.{first_line, after_line, after, line_at, IsAsLike, IsCandidate, IsLastNumber, AreLastNumbers, AreFlowsRead, ArePairsRead, AreStepsRead, IsOptimalRead, IsCutRead, IsCircuitRead}
 use Rattle.cert_text.proofs.LineEnds.{after-after}
-use Rattle.cert_text.proofs.PieceLaws.{IsWhole, alike_apart, alike_line, alike_texts, first-whole}
+use Rattle.cert_text.proofs.PieceLaws.{alike_apart, alike_line, alike_texts, first-whole}
 use Rattle.cert_text.proofs.Wholes.{whole_head, whole_number, whole_potential, whole_flow, heads_apart}
 use Rattle.cert_text.proofs.Nearest.{number_read, flow_read, pair_read, alike_sides, alike_steps}
 

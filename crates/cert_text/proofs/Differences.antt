@@ -1,7 +1,7 @@
 -- The first line in which two texts differ, byte by byte from the end.
-use Rattle.std.proofs.Common.{◌≡◌, ◌≢◌, ℕ, zero, suc, ◌+◌, ◌-◌, ◌≤◌, ◌<◌, ◌⊎◌, ◌==◌, inl, inr, Bool, true, false, List, [], ◌∷◌, ◌++◌, length, take, get_or, refl, sym, ap, subst, ◌∙◌, arith, add-one}
+use Rattle.std.proofs.Common.{◌≡◌, ◌≢◌, ℕ, zero, suc, ◌-◌, ◌⊎◌, ◌==◌, inl, inr, Bool, true, false, List, [], ◌∷◌, length, take, get_or, refl, sym, ap, ◌∙◌, arith}
 use Rattle.std.proofs.lemmas.Bool.{ne_eqb, eqb-true}
-use Rattle.cert_text.specs.BadLine.{pieces, onto_first}
+use Rattle.cert_text.specs.BadLine.{pieces}
 use Rattle.cert_text.specs.Candidate.{first_line, IsFirstDifference}
 use Rattle.cert_text.proofs.PieceLaws.{pieces-first}
 

@@ -1,25 +1,23 @@
 -- What is read from the ends of the lines is the certificate of the text as far as there is one. A line that some
 -- certificate has at a place says its number, mark or step, and so the certificate that was read has the same line there.
-use Rattle.std.proofs.Common.{◌≡◌, ◌≢◌, ℕ, zero, suc, ◌+◌, ◌-◌, ◌^◌, ◌<◌, ◌≤◌, Bool, true, false, if◌then◌else◌, bytes_eq, List, [], ◌∷◌, ◌++◌, length, get_or, refl, sym, ap, subst, ◌∙◌, arith, append-nil, append_assoc, add-one, add_comm}
+use Rattle.std.proofs.Common.{◌≡◌, ◌≢◌, ℕ, zero, suc, ◌+◌, ◌<◌, ◌≤◌, Bool, true, false, if◌then◌else◌, List, [], ◌∷◌, ◌++◌, length, refl, sym, ap, subst, ◌∙◌, arith, append_assoc}
 use Rattle.std.proofs.lemmas.Bool.{both_ways}
 use Rattle.std.specs.Cmp.Lexicographic.{bytes_decides}
-use Rattle.std.specs.Prelude.{ℤ, pos, codes}
+use Rattle.std.specs.Prelude.{ℤ, codes}
 use Rattle.std.specs.List.{flat_map}
 use Rattle.theory.specs.declared.network.Step.{Step}
 use Rattle.theory.specs.Network.{«at»}
-use Rattle.theory.specs.Circuit.{step, WalkIsThere}
+use Rattle.theory.specs.Circuit.{step}
 use Rattle.theory.specs.Cut.{holds}
-use Rattle.theory.specs.Grounded.{Entries, grounded, arc_name, node_name}
-use Rattle.theory.specs.Certificate.{Certificate, Fits, IsWithin, flow_most, sum_most, AreNumbers, IsPotentialOf, IsWalkOf}
-use Rattle.theory.specs.Certificate.Certificate.{optimal, cut, circuit}
-use Rattle.theory.proofs.GroundedLaw.{length-grounded_arcs}
+use Rattle.theory.specs.Grounded.{Entries, arc_name, node_name}
+use Rattle.theory.specs.Certificate.{IsWithin, flow_most, sum_most}
 use Rattle.model_text.specs.Model.{IsWellFormed}
 use Rattle.model_text.specs.Printed.{printed_number, printed_line}
-use Rattle.cert_text.specs.CertificateText.{certificate_text, texts_below, head_line, number_line, potential_line, flow_line, node_line, side_line, step_line, supply_lines, arc_lines}
-use Rattle.cert_text.specs.Candidate.{first_line, after_line, after, line_at, left_at, takes, IsAsLike, IsCandidate, IsLastNumber, AreLastNumbers, IsStepRead, IsNoStep, AreFlowsRead, ArePairsRead, IsSideRead, AreStepsRead, IsOptimalRead, IsCutRead, IsCircuitRead}
-use Rattle.cert_text.proofs.LineEnds.{after-shift, after-after}
-use Rattle.cert_text.proofs.PieceLaws.{IsWhole, alike_apart, alike_line, alike_texts, first-whole}
-use Rattle.cert_text.proofs.Wholes.{whole_head, whole_number, whole_potential, whole_flow, whole_node, whole_step, nodes_apart, number_words, flow_words, potential_words, heads_apart}
+use Rattle.cert_text.specs.CertificateText.{texts_below, number_line, potential_line, flow_line, node_line, side_line, step_line}
+use Rattle.cert_text.specs.Candidate.{first_line, after_line, line_at, left_at, takes, IsAsLike, IsLastNumber, AreLastNumbers, IsStepRead, IsNoStep}
+use Rattle.cert_text.proofs.LineEnds.{after-shift}
+use Rattle.cert_text.proofs.PieceLaws.{alike_apart, alike_line, first-whole}
+use Rattle.cert_text.proofs.Wholes.{whole_node, whole_step, nodes_apart, number_words, flow_words, potential_words}
 
 -- ---- lines with one number
 

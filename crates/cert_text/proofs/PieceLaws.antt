@@ -1,10 +1,10 @@
 -- Pieces of texts that are made of whole lines, and when one text is as like a third as another is. Two texts are
 -- compared from the left. Where the second begins with a line that the third does not begin with, it is like it no
 -- farther than the first. Where it does begin with the third's line, the first has to as well, and so on behind it.
-use Rattle.std.proofs.Common.{◌≡◌, ◌≢◌, ℕ, zero, suc, ◌+◌, ◌<◌, ◌==◌, nat_lt, Bool, true, false, if◌then◌else◌, List, [], ◌∷◌, ◌++◌, take, refl, sym, ap, subst, ◌∙◌, arith, append_assoc}
+use Rattle.std.proofs.Common.{◌≡◌, ◌≢◌, ℕ, zero, suc, ◌<◌, ◌==◌, nat_lt, Bool, true, false, List, [], ◌∷◌, ◌++◌, take, refl, sym, ap, ◌∙◌, arith, append_assoc}
 use Rattle.std.specs.List.{list_all}
 use Rattle.std.proofs.lemmas.Bool.{ne_eqb, ltb-true, and_parts}
-use Rattle.cert_text.specs.BadLine.{pieces, onto_first}
+use Rattle.cert_text.specs.BadLine.{pieces}
 use Rattle.cert_text.specs.CertificateText.{texts_below}
 use Rattle.cert_text.specs.Candidate.{first_line, after_line, after, line_at, IsAsLike}
 use Rattle.cert_text.proofs.LineEnds.{line_and_rest}

@@ -1,17 +1,15 @@
 -- A step's line by its words, and the arc by its name.
-use Rattle.std.proofs.Common.{◌≡◌, ◌≢◌, ℕ, zero, suc, ◌+◌, ◌-◌, ◌<◌, ◌≤◌, nat_lt, Bool, true, false, cond, if◌then◌else◌, Option, Some, None, position, bytes_eq, List, [], ◌∷◌, ◌++◌, length, map, get_or, refl, sym, ap, subst, ◌∙◌, arith, append-nil, add-one, ltb}
+use Rattle.std.proofs.Common.{◌≡◌, ◌≢◌, ℕ, ◌+◌, ◌-◌, ◌<◌, nat_lt, Bool, true, false, cond, if◌then◌else◌, Option, Some, None, bytes_eq, List, [], ◌∷◌, ◌++◌, length, get_or, refl, sym, ap, subst, ◌∙◌, arith, append-nil, add-one}
 use Rattle.std.specs.Prelude.{codes}
 use Rattle.std.specs.Option.{option_map}
-use Rattle.std.specs.List.{position_or_len, AllPairs}
 use Rattle.std.specs.Cmp.Lexicographic.{bytes_decides}
-use Rattle.std.proofs.lemmas.Bool.{ltb-true, ltb-false, lt-ltb, le-ltb, cases_lt}
+use Rattle.std.proofs.lemmas.Bool.{ltb-true, ltb-false, lt-ltb}
 use Rattle.std.proofs.lemmas.List.{length-map, get_or-map}
 use Rattle.std.proofs.lemmas.List.Quantifiers.{position-Some}
 use Rattle.std.proofs.lemmas.List.Sums.{position_or_len_is}
 use Rattle.theory.specs.declared.network.Step.{Step}
-use Rattle.theory.specs.Grounded.{Entries, NodeEntry, ArcEntry, arc_name, node_name}
+use Rattle.theory.specs.Grounded.{Entries, NodeEntry, ArcEntry, arc_name}
 use Rattle.model_text.specs.Model.{node_at, arc_at, node_names, arc_names, place_of, AreNames, IsWellFormed}
-use Rattle.model_text.specs.Names.{IsName}
 use Rattle.model_text.specs.Printed.{printed_line}
 use Rattle.cert_text.specs.CertificateText.{step_line}
 use Rattle.cert_text.specs.Candidate.{named_arc, IsPlain}

@@ -1,20 +1,19 @@
 -- The lines of a certificate: each ends with its only LF, and its words stand at its end.
-use Rattle.std.proofs.Common.{◌≡◌, ◌≢◌, ℕ, zero, suc, ◌+◌, ◌-◌, ◌^◌, ◌<◌, ◌≤◌, nat_lt, Bool, true, false, bytes_eq, List, [], ◌∷◌, ◌++◌, length, get_or, refl, sym, ap, subst, ◌∙◌, arith, lit<, append-nil, append_assoc, if◌then◌else◌}
+use Rattle.std.proofs.Common.{◌≡◌, ◌≢◌, ℕ, zero, suc, ◌+◌, ◌^◌, ◌<◌, nat_lt, Bool, true, false, bytes_eq, List, [], ◌∷◌, ◌++◌, length, refl, sym, ap, subst, ◌∙◌, arith, lit<, append-nil, append_assoc, if◌then◌else◌}
 use Rattle.std.specs.Prelude.{ℤ, codes}
 use Rattle.std.specs.List.{list_all}
 use Rattle.std.specs.Cmp.Lexicographic.{bytes_decides}
-use Rattle.std.proofs.lemmas.Bool.{and_from, and_parts, both_ways, cases_order}
+use Rattle.std.proofs.lemmas.Bool.{and_from, both_ways}
 use Rattle.std.proofs.lemmas.List.{append_cancel_left, append_cancel_right, length-map}
 use Rattle.std.proofs.lemmas.List.Folds.{list_all-append}
 use Rattle.theory.specs.declared.network.Step.{Step}
 use Rattle.theory.specs.Network.{«at»}
 use Rattle.theory.specs.Grounded.{Entries, NodeEntry, arc_name, node_name}
 use Rattle.theory.specs.Certificate.{IsWithin, flow_most, sum_most}
-use Rattle.model_text.specs.Model.{IsWellFormed, node_at, node_names}
+use Rattle.model_text.specs.Model.{IsWellFormed, node_at}
 use Rattle.model_text.specs.Names.{is_name}
 use Rattle.model_text.specs.Printed.{printed_line, printed_number, spaced}
 use Rattle.cert_text.specs.CertificateText.{head_line, number_line, potential_line, flow_line, node_line, step_line}
-use Rattle.cert_text.specs.Candidate.{IsPlain}
 use Rattle.cert_text.proofs.PieceLaws.{IsWhole, whole}
 use Rattle.cert_text.proofs.Plain.{no_feed, plain_number}
 use Rattle.cert_text.proofs.StepLines.{arc_name_is, kind_of, name_of, kind_plain, name_of_plain, node_at_name, node_name_plain}

@@ -1,9 +1,9 @@
-use Rattle.std.proofs.Common.{◌≡◌, ◌≢◌, ◌≤◌, ◌^◌, ◌+◌, bytes_eq, true, false, length, sym, ap, subst, arith, ◌∙◌}
+use Rattle.std.proofs.Common.{◌≡◌, ◌≢◌, bytes_eq, length, sym, ap, subst, arith, ◌∙◌}
 use Rattle.std.specs.Prelude.{codes}
 use Rattle.std.specs.Cmp.Lexicographic.{bytes_decides}
 use Rattle.std.proofs.lemmas.Bool.{both_ways}
 use Rattle.cert_text.specs.CertificateText.{head_line}
-use Rattle.cert_text.specs.Candidate.{first_line, after_line, after, IsCutRead, IsCircuitRead, IsOptimalRead, IsCandidate}
+use Rattle.cert_text.specs.Candidate.{first_line, IsCutRead, IsCircuitRead, IsOptimalRead, IsCandidate}
 use Rattle.cert_text.specs.Shown.{shown}
 use Rattle.cert_text.proofs.LineEnds.{after_no_longer}
 use Rattle.cert_text.proofs.ByKind.{cut_candidate, circuit_candidate, optimal_candidate, if_ok}

@@ -1,5 +1,4 @@
-use Rattle.std.proofs.Common.{◌≤◌, ◌^◌, ◌+◌, length, ap, arith, ◌∙◌}
-use Rattle.cert_text.specs.Candidate.{after}
+use Rattle.std.proofs.Common.{◌+◌, length, ap, arith}
 use Rattle.cert_text.proofs.LineEnds.{after_no_longer}
 use Rattle.cert_text.proofs.candidate.candidate_circuit.Goals as goal
 

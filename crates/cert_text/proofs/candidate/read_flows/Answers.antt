@@ -1,4 +1,4 @@
-use Rattle.std.proofs.Common.{◌≡◌, refl}
+use Rattle.std.proofs.Common.{refl}
 use Rattle.cert_text.proofs.Readings.{flows_none, flows_step, left_more}
 use Rattle.cert_text.proofs.candidate.read_flows.Goals as goal
 

@@ -1,6 +1,5 @@
-use Rattle.std.proofs.Common.{◌≡◌, ◌∷◌, ◌++◌, [], refl, sym, ap, subst, ◌∙◌}
+use Rattle.std.proofs.Common.{◌∷◌, ◌++◌, [], refl, ap, ◌∙◌}
 use Rattle.std.specs.Prelude.{pos}
-use Rattle.cert_text.specs.Candidate.{ArePairsRead}
 use Rattle.cert_text.proofs.Readings.{pairs_none, pairs_step, left_more}
 use Rattle.cert_text.proofs.candidate.read_pairs.Goals as goal
 

@@ -1,4 +1,4 @@
-use Rattle.std.proofs.Common.{◌≡◌, ◌++◌, if◌then◌else◌, bytes_eq, sym, ap, ◌∙◌}
+use Rattle.std.proofs.Common.{◌≡◌, ◌++◌, if◌then◌else◌, sym, ap, ◌∙◌}
 use Rattle.cert_text.specs.CertificateText.{node_line}
 use Rattle.cert_text.proofs.Readings.{side_step, left_next}
 use Rattle.cert_text.proofs.candidate.read_side.Goals as goal

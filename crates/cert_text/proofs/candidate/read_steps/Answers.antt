@@ -1,8 +1,8 @@
-use Rattle.std.proofs.Common.{◌≡◌, ◌+◌, ◌<◌, ◌≤◌, ℕ, List, length, sym, ap, subst, ◌∙◌, arith}
+use Rattle.std.proofs.Common.{◌≡◌, ◌+◌, ◌<◌, ℕ, List, length, sym, ap, subst, ◌∙◌, arith}
 use Rattle.std.proofs.lemmas.List.{length_push}
 use Rattle.theory.specs.declared.network.Step.{Step}
 use Rattle.theory.specs.Circuit.{step}
-use Rattle.cert_text.specs.Candidate.{first_line, after_line, after, line_at, IsStepRead}
+use Rattle.cert_text.specs.Candidate.{first_line, after, line_at, IsStepRead}
 use Rattle.cert_text.proofs.LineEnds.{shorter}
 use Rattle.cert_text.proofs.Readings.{steps_more, left_more}
 use Rattle.cert_text.proofs.candidate.read_steps.Goals as goal

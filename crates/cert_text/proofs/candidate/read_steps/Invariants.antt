@@ -1,4 +1,4 @@
-use Rattle.std.proofs.Common.{◌≡◌, ◌+◌, ◌<◌, ◌≤◌, ℕ, length, vec_len}
+use Rattle.std.proofs.Common.{◌≡◌, ◌+◌, ◌<◌, ◌≤◌, ℕ, length}
 use Rattle.theory.specs.Circuit.{step}
 use Rattle.cert_text.specs.Candidate.{after, line_at, IsStepRead}
 use Rattle.cert_text.proofs.candidate.read_steps.Given as goal

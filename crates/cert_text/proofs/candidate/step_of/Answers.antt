@@ -1,4 +1,4 @@
-use Rattle.std.proofs.Common.{◌≡◌, ◌==◌, ℕ, Option, Some, None, true, List, [], length, bytes_eq, ap, sym, ◌∙◌}
+use Rattle.std.proofs.Common.{◌≡◌, ◌==◌, Some, None, length, bytes_eq, ap, sym, ◌∙◌}
 use Rattle.std.proofs.lemmas.Bool.{both_ways}
 use Rattle.cert_text.proofs.StepLines.{arc_read, sign_read, named_there, same_step}
 use Rattle.cert_text.proofs.candidate.step_of.Goals as goal

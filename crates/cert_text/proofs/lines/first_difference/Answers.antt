@@ -1,4 +1,4 @@
-use Rattle.std.proofs.Common.{◌≡◌, ◌≢◌, ◌⊎◌, ◌+◌, ◌-◌, ◌∷◌, ◌≤◌, ℕ, suc, inl, inr, length, refl, sym, ap, subst, ◌∙◌, arith, add-zero, List, []}
+use Rattle.std.proofs.Common.{◌≡◌, ◌⊎◌, ◌+◌, ◌-◌, suc, inl, inr, length, sym, ap, subst, ◌∙◌, arith, add-zero}
 use Rattle.cert_text.specs.Candidate.{IsFirstDifference}
 use Rattle.cert_text.proofs.Differences.{bytes_differ, ends_differ, both_end, differ_after_feed, differ_after_byte}
 use Rattle.cert_text.proofs.lines.first_difference.Goals as goal

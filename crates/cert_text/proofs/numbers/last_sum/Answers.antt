@@ -1,4 +1,4 @@
-use Rattle.std.proofs.Common.{◌≡◌, ◌∷◌, ◌++◌, ◌<◌, ◌≤◌, lit<, lit≤}
+use Rattle.std.proofs.Common.{◌∷◌, ◌++◌, lit<, lit≤}
 use Rattle.theory.specs.Certificate.{sum_most}
 use Rattle.model_text.specs.Printed.{printed_number}
 use Rattle.cert_text.specs.Candidate.{IsLastNumber}

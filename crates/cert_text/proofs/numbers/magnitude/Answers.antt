@@ -1,4 +1,4 @@
-use Rattle.std.proofs.Common.{◌≡◌, ◌<◌, ◌≤◌, ◌^◌, ◌∙◌, sym, arith}
+use Rattle.std.proofs.Common.{◌<◌, ◌^◌, ◌∙◌, sym, arith}
 use Rattle.std.proofs.lemmas.Bool.{both_ways}
 use Rattle.cert_text.proofs.Digits.{digit_there, front_below, whole_value, one_more}
 use Rattle.cert_text.proofs.numbers.magnitude.Goals as goal
