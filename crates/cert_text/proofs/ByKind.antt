@@ -21,14 +21,14 @@ use Rattle.cert_text.proofs.Nearest.{number_read, flow_read, pair_read, alike_si
 
 -- ---- texts by their lines
 
-abbrev optimal_lines : Entries → List ℤ → List ℤ → ℤ → ℤ → List ℕ
+abbrev pub optimal_lines : Entries → List ℤ → List ℤ → ℤ → ℤ → List ℕ
 optimal_lines m x u cost value =
     number_line (codes "cost") cost ++ (number_line (codes "value") value ++ (texts_below (length m.nodes) (potential_line m u x) ++ (arc_lines m x ++ [])))
 
-abbrev cut_lines : Entries → List Bool → ℤ → List ℕ
+abbrev pub cut_lines : Entries → List Bool → ℤ → List ℕ
 cut_lines m side capacity = number_line (codes "capacity") capacity ++ (texts_below (length m.nodes + 1) (side_line m side) ++ [])
 
-abbrev circuit_lines : Entries → List ℤ → List Step → ℤ → List ℕ
+abbrev pub circuit_lines : Entries → List ℤ → List Step → ℤ → List ℕ
 circuit_lines m x walk span = number_line (codes "span") span ++ (supply_lines m x ++ (arc_lines m x ++ flat_map (step_line m) walk))
 
 nested_three : (a b c : List ℕ) → a ++ b ++ c ≡ a ++ (b ++ (c ++ []))
@@ -37,16 +37,16 @@ nested_three a b c = simp (append_assoc, append-nil)
 nested_five : (a b c d e : List ℕ) → a ++ b ++ c ++ d ++ e ≡ a ++ (b ++ (c ++ (d ++ e)))
 nested_five a b c d e = simp append_assoc
 
-optimal_text : (m : Entries) (x u : List ℤ) (cost value : ℤ)
+pub optimal_text : (m : Entries) (x u : List ℤ) (cost value : ℤ)
     → certificate_text m (optimal x u cost value) ≡ head_line (codes "optimal") ++ optimal_lines m x u cost value
 optimal_text m x u cost value =
     nested_five (head_line (codes "optimal")) (number_line (codes "cost") cost) (number_line (codes "value") value) (texts_below (length m.nodes) (potential_line m u x)) (arc_lines m x)
     ∙ ap (λ l. head_line (codes "optimal") ++ (number_line (codes "cost") cost ++ (number_line (codes "value") value ++ (texts_below (length m.nodes) (potential_line m u x) ++ l)))) (sym (append-nil (arc_lines m x)))
 
-cut_text : (m : Entries) (side : List Bool) (capacity : ℤ) → certificate_text m (cut side capacity) ≡ head_line (codes "cut") ++ cut_lines m side capacity
+pub cut_text : (m : Entries) (side : List Bool) (capacity : ℤ) → certificate_text m (cut side capacity) ≡ head_line (codes "cut") ++ cut_lines m side capacity
 cut_text m side capacity = nested_three (head_line (codes "cut")) (number_line (codes "capacity") capacity) (texts_below (length m.nodes + 1) (side_line m side))
 
-circuit_text : (m : Entries) (x : List ℤ) (walk : List Step) (span : ℤ)
+pub circuit_text : (m : Entries) (x : List ℤ) (walk : List Step) (span : ℤ)
     → certificate_text m (circuit x walk span) ≡ head_line (codes "circuit") ++ circuit_lines m x walk span
 circuit_text m x walk span = nested_five (head_line (codes "circuit")) (number_line (codes "span") span) (supply_lines m x) (arc_lines m x) (flat_map (step_line m) walk)
 
@@ -56,12 +56,12 @@ alike_by text own other mine theirs p q like =
 
 -- ---- heads
 
-head_of : Certificate → List ℕ
+unfoldable pub head_of : Certificate → List ℕ
 head_of (optimal x u cost value) = head_line (codes "optimal")
 head_of (cut side capacity) = head_line (codes "cut")
 head_of (circuit x walk span) = head_line (codes "circuit")
 
-head_is : (m : Entries) (c : Certificate) → first_line (certificate_text m c) ≡ head_of c
+pub head_is : (m : Entries) (c : Certificate) → first_line (certificate_text m c) ≡ head_of c
 unfolding head_of
 head_is m (optimal x u cost value) =
     ap first_line (optimal_text m x u cost value) ∙ first-whole (head_line (codes "optimal")) (optimal_lines m x u cost value) (whole_head (codes "optimal") refl)
@@ -111,14 +111,14 @@ module _ (m : Entries) (formed : IsWellFormed m) (text : List ℕ) where
 
   -- ---- optimal plans and circuits
 
-  flows_fit : (x : List ℤ) → length x ≡ length m.nodes + length m.arcs → ((j : ℕ) → j < length m.nodes + length m.arcs → IsWithin flow_most («at» x j))
+  pub flows_fit : (x : List ℤ) → length x ≡ length m.nodes + length m.arcs → ((j : ℕ) → j < length m.nodes + length m.arcs → IsWithin flow_most («at» x j))
       → AreNumbers (length (grounded m).arcs) x
   flows_fit x long within = record {
     one_each = long ∙ sym (length-grounded_arcs m);
     within = λ j here. within j (omega (arith, length-grounded_arcs m));
   }
 
-  flow_within : (x : List ℤ) → AreNumbers (length (grounded m).arcs) x → (j : ℕ) → j < length m.nodes + length m.arcs → IsWithin flow_most («at» x j)
+  pub flow_within : (x : List ℤ) → AreNumbers (length (grounded m).arcs) x → (j : ℕ) → j < length m.nodes + length m.arcs → IsWithin flow_most («at» x j)
   flow_within x numbers j here = numbers.within j (omega (arith, length-grounded_arcs m))
 
   -- the lines of the model's arcs

@@ -11,3 +11,5 @@ pub mod StepLines
 pub mod Wholes
 pub mod Nearest
 pub mod ByKind
+pub mod OneText
+pub mod OneCertificate

@@ -17,7 +17,7 @@ use Rattle.cert_text.specs.CertificateText.{texts_below, number_line, potential_
 use Rattle.cert_text.specs.Candidate.{first_line, after_line, line_at, left_at, takes, IsAsLike, IsLastNumber, AreLastNumbers, IsStepRead, IsNoStep}
 use Rattle.cert_text.proofs.LineEnds.{after-shift}
 use Rattle.cert_text.proofs.PieceLaws.{alike_apart, alike_line, first-whole}
-use Rattle.cert_text.proofs.Wholes.{whole_node, whole_step, nodes_apart, number_words, flow_words, potential_words}
+use Rattle.cert_text.proofs.Wholes.{whole_node, whole_step, mark_apart, number_words, flow_words, potential_words}
 
 -- ---- lines with one number
 
@@ -63,16 +63,11 @@ module _ (m : Entries) (formed : IsWellFormed m) where
   alike_sides text side other zero most read own rest apart on = on
   alike_sides text side other (suc n) most read own rest apart on =
       let here = side_cases text n (omega arith) (takes m text n) (holds other n) refl own rest (apart n (omega arith)) on in
-      let further = further_apart (holds other n) in
+      let further = mark_apart m formed n (omega arith) rest apart (holds other n) in
       let mine : (if takes m text n then node_line m n else []) ≡ side_line m side n = ap (λ b. if b then node_line m n else []) (sym (read n (omega arith))) in
       rw (append_assoc (texts_below n (side_line m side)) (side_line m side n) own, append_assoc (texts_below n (side_line m other)) (side_line m other n) rest)
       (alike_sides text side other n (omega arith) (λ i below. read i (omega arith)) (side_line m side n ++ own) (side_line m other n ++ rest) further
       (subst (λ l. IsAsLike (left_at m text n) (l ++ own) (side_line m other n ++ rest)) mine here))
-    where
-      further_apart : (b : Bool) (i : ℕ) → i < n → first_line ((if b then node_line m n else []) ++ rest) ≢ node_line m i
-      further_apart true i below same =
-          nodes_apart m formed i n below (omega arith) (sym (sym (first-whole (node_line m n) rest (whole_node m formed n (omega arith))) ∙ same))
-      further_apart false i below same = apart i (omega arith) same
 
   -- ---- steps
 

@@ -14,7 +14,8 @@ use Rattle.model_text.specs.Model.{IsWellFormed, node_at}
 use Rattle.model_text.specs.Names.{is_name}
 use Rattle.model_text.specs.Printed.{printed_line, printed_number, spaced}
 use Rattle.cert_text.specs.CertificateText.{head_line, number_line, potential_line, flow_line, node_line, step_line}
-use Rattle.cert_text.proofs.PieceLaws.{IsWhole, whole}
+use Rattle.cert_text.specs.Candidate.{first_line}
+use Rattle.cert_text.proofs.PieceLaws.{IsWhole, whole, first-whole}
 use Rattle.cert_text.proofs.Plain.{no_feed, plain_number}
 use Rattle.cert_text.proofs.StepLines.{arc_name_is, kind_of, name_of, kind_plain, name_of_plain, node_at_name, node_name_plain}
 
@@ -94,6 +95,13 @@ module _ (m : Entries) (formed : IsWellFormed m) where
   nodes_apart i k less here same =
       let ended = append_cancel_left (codes "side ") (node_name m i ++ [] ++ 10 ∷ []) (node_name m k ++ [] ++ 10 ∷ []) same in
       names_apart i k less here (sym (append-nil (node_name m i)) ∙ append_cancel_right (node_name m i ++ []) (node_name m k ++ []) (10 ∷ []) ended ∙ append-nil (node_name m k))
+
+  -- where the text of node n's mark and what stands behind it begins with no earlier node's line
+  pub mark_apart : (n : ℕ) → n < length m.nodes + 1 → (rest : List ℕ) → ((i : ℕ) → i < suc n → first_line rest ≢ node_line m i)
+      → (b : Bool) (i : ℕ) → i < n → first_line ((if b then node_line m n else []) ++ rest) ≢ node_line m i
+  mark_apart n here rest apart true i below same =
+      nodes_apart i n below here (sym (sym (first-whole (node_line m n) rest (whole_node n here)) ∙ same))
+  mark_apart n here rest apart false i below same = apart i (omega arith) same
 
 -- ---- words at the end of a line
 

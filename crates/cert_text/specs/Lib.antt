@@ -2,3 +2,4 @@ pub mod CertificateText
 pub mod Shown
 pub mod BadLine
 pub mod Candidate
+pub mod TextLaws

@@ -7,7 +7,9 @@ mod lines;
 mod numbers;
 mod print;
 mod read;
+mod text_laws;
 
 pub use certificate::Certificate;
 pub use print::print_cert;
 pub use read::{CertFault, read_cert};
+pub use text_laws::{bad_line_has_none, one_bad_line, one_certificate};
