@@ -7,6 +7,8 @@ mod lines;
 mod numbers;
 mod print;
 mod read;
+#[cfg(test)]
+mod tests;
 mod text_laws;
 
 pub use certificate::Certificate;
