@@ -1,2 +1,15 @@
 pub mod Texts
 pub mod Fitting
+pub mod LineEnds
+pub mod WordEnds
+pub mod Plain
+pub mod PieceLaws
+pub mod Digits
+pub mod Differences
+pub mod Readings
+pub mod StepLines
+pub mod Wholes
+pub mod Nearest
+pub mod ByKind
+pub mod OneText
+pub mod OneCertificate

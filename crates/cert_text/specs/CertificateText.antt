@@ -36,9 +36,12 @@ supply_lines m x = texts_below (length m.nodes) (flow_line m x)
 abbrev pub arc_lines : Entries → List ℤ → List ℕ
 arc_lines m x = texts_below (length m.arcs) (λ j. flow_line m x (length m.nodes + j))
 
--- `side NAME` where the side holds grounded node i
+-- `side NAME` of grounded node i, which stands there where the side holds the node
+abbrev pub node_line : Entries → ℕ → List ℕ
+node_line m i = printed_line (codes "side") (node_name m i ∷ [])
+
 abbrev pub side_line : Entries → List Bool → ℕ → List ℕ
-side_line m side i = if holds side i then printed_line (codes "side") (node_name m i ∷ []) else []
+side_line m side i = if holds side i then node_line m i else []
 
 -- `step + ARC` or `step - ARC`
 abbrev pub step_line : Entries → Step → List ℕ

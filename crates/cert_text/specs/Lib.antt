@@ -1,2 +1,5 @@
 pub mod CertificateText
 pub mod Shown
+pub mod BadLine
+pub mod Candidate
+pub mod TextLaws

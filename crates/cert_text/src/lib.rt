@@ -1,8 +1,17 @@
 // Certificates and their texts.
 #![tactic(auto)]
 
+mod candidate;
 mod certificate;
+mod lines;
+mod numbers;
 mod print;
+mod read;
+#[cfg(test)]
+mod tests;
+mod text_laws;
 
 pub use certificate::Certificate;
 pub use print::print_cert;
+pub use read::{CertFault, read_cert};
+pub use text_laws::{bad_line_has_none, one_bad_line, one_certificate};

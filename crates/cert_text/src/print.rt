@@ -7,7 +7,7 @@ ghost use Rattle.theory.specs.Grounded.{grounded, arc_name, node_name};
 ghost use Rattle.theory.specs.Circuit.{step};
 ghost use Rattle.theory.specs.Certificate.{Fits};
 ghost use Rattle.model_text.specs.Printed.{printed_line, printed_number};
-ghost use Rattle.cert_text.specs.CertificateText.{certificate_text, texts_below, head_line, number_line, potential_line, flow_line, side_line, step_line, supply_lines, arc_lines};
+ghost use Rattle.cert_text.specs.CertificateText.{certificate_text, texts_below, head_line, number_line, potential_line, flow_line, node_line, side_line, step_line, supply_lines, arc_lines};
 ghost use Rattle.cert_text.specs.Shown.{shown};
 
 use crate::certificate::Certificate;
@@ -172,9 +172,18 @@ fn append_side_line(out: &mut Vec<u8>, m: &Model, side: &[bool], i: u32) -> Resu
     requires one_each { length side.now ≡ length m.now.entries.nodes + 1 }
     ensures { OnOk result (out.new.items ≡ out.old.items ++ side_line m.now.entries side.now i) }
 {
-    if !side[i as usize] {
-        return Ok(());
+    if side[i as usize] {
+        append_node_line(out, m, i)
+    } else {
+        Ok(())
     }
+}
+
+/// `side NAME` of a grounded node.
+pub(crate) fn append_node_line(out: &mut Vec<u8>, m: &Model, i: u32) -> Result<(), AllocError>
+    requires { i ≤ length m.now.entries.nodes }
+    ensures { OnOk result (out.new.items ≡ out.old.items ++ node_line m.now.entries i) }
+{
     out.extend_from_slice(b"side")?;
     append_node_name(out, m, i)?;
     out.push(b'\n')?;

@@ -1,0 +1,5 @@
+use Rattle.std.proofs.Common.{◌≢◌, ℕ, ◌<◌, ◌≤◌, get_or, length}
+use Rattle.cert_text.proofs.lines.split_last_word.Given as goal
+
+abbrev pub invariant-loop-place : goal.invariant-loop-place
+invariant-loop-place l = (k : ℕ) → l.place ≤ k → k < length l.bytes → get_or l.bytes k 0 ≢ 32

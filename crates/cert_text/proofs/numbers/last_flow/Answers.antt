@@ -1,0 +1,17 @@
+use Rattle.std.proofs.Common.{◌∷◌, ◌++◌, lit<}
+use Rattle.theory.specs.Certificate.{flow_most}
+use Rattle.model_text.specs.Printed.{printed_number}
+use Rattle.cert_text.specs.Candidate.{IsLastNumber}
+use Rattle.cert_text.proofs.Digits.{kept}
+use Rattle.cert_text.proofs.Plain.{plain_number}
+use Rattle.cert_text.proofs.numbers.last_flow.Goals as goal
+
+pub returns : goal.returns
+returns c =
+    let read : IsLastNumber flow_most c.args.line.now c.number_of.result = record {
+      within = c.number_of.ensures.within;
+      found = λ front y within is.
+          c.number_of.ensures.found y within
+          (c.split_last_word.ensures front (printed_number y) (plain_number y flow_most within (lit< tt)) (c.content.ensures (front ++ 32 ∷ printed_number y) is)).1;
+    } in
+    rw (kept c.number_of.result c.number_of.ensures.within) read
