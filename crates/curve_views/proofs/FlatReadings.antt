@@ -123,8 +123,8 @@ module _ (l r : Ext) (below : IsBelow l r) where
             slope_over x v (is_below (At x) l) (is_below (At x) r) refl refl pair,
           )),
           λ between. (let left = left_of x v (is_below l (At x)) (is_below r (At x)) refl refl between.0 in
-            let right = right_of x v (is_below (At x) l) (is_below (At x) r) refl refl between.1 in
-            curve_of_pair flat x v flat-is_list (flat_pair (At x) (At v) right.not_under left.not_over left.steep right.flat_enough)),
+              let right = right_of x v (is_below (At x) l) (is_below (At x) r) refl refl between.1 in
+              curve_of_pair flat x v flat-is_list (flat_pair (At x) (At v) right.not_under left.not_over left.steep right.flat_enough)),
         );
         below = λ before. (let past : is_below l (At x) ≡ false = below_asym (At x) l before in
             let later : is_below r (At x) ≡ false = below_asym (At x) r (earlier_before (At x) before) in
@@ -187,8 +187,8 @@ range_of_flat l r below v =
           end_over l r below x v (is_below (At v) (At (pos 0))) refl pair,
         )),
         λ between. (let right = right_of_end l r below x v (is_below (At (pos 0)) (At v)) refl between.0 in
-          let left = left_of_end l r below x v (is_below (At v) (At (pos 0))) refl between.1 in
-          curve_of_pair items x v list (flat_pair l r below (At x) (At v) right.not_under left.not_over left.steep right.flat_enough)),
+            let left = left_of_end l r below x v (is_below (At v) (At (pos 0))) refl between.1 in
+            curve_of_pair items x v list (flat_pair l r below (At x) (At v) right.not_under left.not_over left.steep right.flat_enough)),
       );
       below = under_zero l r v below;
       above = over_zero l r v below;

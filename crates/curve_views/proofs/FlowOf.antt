@@ -1,6 +1,6 @@
 -- A flow of a tension, by the ends of its range, and what it tells of the conjugate cost.
 use Rattle.std.proofs.Common.{◌≡◌, ℕ, ℤ, pos, ◌+ℤ◌, List, arith}
-use Rattle.std.specs.Prelude.{◌-ℤ◌, ◌*ℤ◌}
+use Rattle.std.specs.Prelude.{◌↔◌, ◌-ℤ◌, ◌*ℤ◌}
 use Rattle.std.proofs.lemmas.Int.{ints}
 use Rattle.theory.specs.declared.ext.Ext.{Ext}
 use Rattle.theory.specs.declared.ext.Ext.TheVariants.{MinusInf, At, PlusInf}
@@ -18,7 +18,7 @@ use Rattle.theory.specs.Certificate.{IsWithin}
 use Rattle.theory.proofs.Rings.{one_times}
 use Rattle.theory.proofs.Shape.{shape_by_place}
 use Rattle.theory.proofs.Pairs.{flow_of_tension}
-use Rattle.theory.proofs.Equality.{equal_on_curve, rest_in_domain}
+use Rattle.theory.proofs.Equality.{equal_on_curve, fenchel_equality, rest_in_domain}
 use Rattle.theory.proofs.ConjugateList.{conjugate-is_list}
 use Rattle.theory.proofs.ConjugateCost.{rest_point-conjugate}
 use Rattle.curve_views.specs.FlowBetween.{flow_between}
@@ -62,11 +62,26 @@ conjugate_cost-pair c x v list pair = let e = equal_on_curve 1 c x v list pair i
     moved : (xv f h : ℤ) → pos 1 *ℤ f +ℤ pos 1 *ℤ h ≡ xv → xv -ℤ f ≡ h
     moved xv f h e = omega (arith, ints)
 
+-- with equality exactly on the curve
+pub conjugate_cost-equality : (c : Listing) (x v : ℤ) → IsCurveList c.items → InSpan 1 c.items v → InDomain 1 c.items x
+    → (cost 1 c x +ℤ conjugate_cost 1 c v ≡ x *ℤ v) ↔ IsOnCurve 1 c.items x v
+conjugate_cost-equality c x v list in_v in_x =
+    let law = fenchel_equality 1 c x v (omega arith) list in (
+      λ e. law.on_curve in_x in_v (with_ones (x *ℤ v) (cost 1 c x) (conjugate_cost 1 c v) e),
+      λ pair. without_ones (x *ℤ v) (cost 1 c x) (conjugate_cost 1 c v) (law.equal pair),
+    )
+  where
+    with_ones : (xv f h : ℤ) → f +ℤ h ≡ xv → pos 1 *ℤ f +ℤ pos 1 *ℤ h ≡ xv
+    with_ones xv f h e = omega (arith, ints)
+
+    without_ones : (xv f h : ℤ) → pos 1 *ℤ f +ℤ pos 1 *ℤ h ≡ xv → f +ℤ h ≡ xv
+    without_ones xv f h e = omega (arith, ints)
+
 -- ---- where the conjugate rests
 
 pub rest_tension-in_span : (items : List Ext) → IsCurveList items → InSpan 1 items (rest_tension items)
 rest_tension-in_span items list =
     let ends = conjugate-is_list items list in
     let inside : InDomain 1 (conjugate_items items) (rest_point (conjugate_items items)) =
-        rw (one_times (rest_point (conjugate_items items))) at (rest_in_domain 1 (shape_by_place (conjugate_items items) ends.is_list)) in
+    rw (one_times (rest_point (conjugate_items items))) at (rest_in_domain 1 (shape_by_place (conjugate_items items) ends.is_list)) in
     rw (rest_point-conjugate items list, ends.domain_low, ends.domain_high) at inside

@@ -12,7 +12,6 @@ use Rattle.theory.specs.Certificate.{IsWithin}
 use Rattle.theory.proofs.Bounds.{item_within, length-short}
 use Rattle.theory.proofs.ConjugateList.{conjugate-is_list}
 
-
 nothing_within : (n : ℕ) → IsWithin n (pos 0)
 nothing_within n = (omega (arith, ints), omega (arith, ints))
 

@@ -36,11 +36,7 @@ fn turned_len(end: Ext, len: usize) -> usize
     requires few { len < 2 ^ 32 }
     ensures { result ≡ turned_length end len }
 {
-    if is_finite_end(end) {
-        len + 1
-    } else {
-        len - 1
-    }
+    if is_finite_end(end) { len + 1 } else { len - 1 }
 }
 
 /// The item of the curve's list, and plus infinity past the last.

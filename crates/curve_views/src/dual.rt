@@ -1,6 +1,6 @@
 // The conjugate cost of any listed curve: at a flow of the tension it is flow times tension less the
 // cost, by Fenchel's equality. One scan finds the flow, another prices it.
-ghost use Rattle.std.specs.Prelude.{◌≡◌, ℕ, ◌*◌, ◌^◌, ◌≤◌};
+ghost use Rattle.std.specs.Prelude.{◌≡◌, ◌↔◌, ℕ, ◌*◌, ◌^◌, ◌≤◌};
 ghost use Rattle.std.specs.Prelude.{ℤ, pos, ◌+ℤ◌, ◌-ℤ◌, ◌*ℤ◌, ◌≤ℤ◌};
 ghost use Rattle.theory.specs.declared.ext.Ext.{Ext as Item};
 ghost use Rattle.theory.specs.Domain.{InDomain};
@@ -30,6 +30,13 @@ pub fn dual_at<C: Listed>(curve: &C, v: i64) -> i128
     // Its half of Fenchel's inequality: against every flow p / q of the domain.
     ensures fenchel { (q : ℕ) (p : ℤ) → 1 ≤ q → InDomain q (C.listing curve.now).items p
         → (p *ℤ v) ≤ℤ (cost q (C.listing curve.now) p +ℤ pos q *ℤ result) }
+
+    // At a whole flow the two sides are equal exactly on the curve.
+    ensures equality { (x : ℤ) → InDomain 1 (C.listing curve.now).items x
+        → (cost 1 (C.listing curve.now) x +ℤ result ≡ x *ℤ v) ↔ IsOnCurve 1 (C.listing curve.now).items x v }
+
+    // The conjugate of the conjugate has the list and base of the curve.
+    ensures twice { conjugate_of (conjugate_of (C.listing curve.now)) ≡ C.listing curve.now }
 {
     let flow = flow_at(curve, v);
     gain(flow, v, cost_at(curve, flow))

@@ -11,3 +11,6 @@ pub use conjugate::Conjugate;
 pub use dual::dual_at;
 pub use reversed::Reversed;
 pub use zero_cost::ZeroCost;
+
+#[cfg(test)]
+mod tests;

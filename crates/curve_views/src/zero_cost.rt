@@ -65,8 +65,16 @@ fn range_by(first: Ext, last: Ext, v: i64) -> (Ext, Ext)
     ensures high { result.1 ≡ (if not (is_below (Item.At v) (Item.At (pos 0))) then last else first) }
 {
     let tension = Ext::At(v);
-    let low = if precedes(Ext::At(0), tension) { last } else { first };
-    let high = if !precedes(tension, Ext::At(0)) { last } else { first };
+    let low = if precedes(Ext::At(0), tension) {
+        last
+    } else {
+        first
+    };
+    let high = if !precedes(tension, Ext::At(0)) {
+        last
+    } else {
+        first
+    };
     (low, high)
 }
 

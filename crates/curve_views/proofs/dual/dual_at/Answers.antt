@@ -2,8 +2,8 @@ use Rattle.std.proofs.Common.{◌≡◌, ◌∙◌, sym, to_z, of_z, to_z-of_z, 
 use Rattle.std.specs.Int.{w64, w128}
 use Rattle.theory.specs.ConjugateCost.{conjugate_cost}
 use Rattle.theory.proofs.Whole.{whole_tension}
-use Rattle.theory.proofs.ConjugateCost.{cost-conjugate}
-use Rattle.curve_views.proofs.FlowOf.{conjugate_cost-pair}
+use Rattle.theory.proofs.ConjugateCost.{cost-conjugate, conjugate-twice}
+use Rattle.curve_views.proofs.FlowOf.{conjugate_cost-pair, conjugate_cost-equality}
 use Rattle.curve_views.proofs.dual.dual_at.Given.{Over}
 use Rattle.curve_views.proofs.dual.dual_at.Goals as goal
 use Rattle.curve_views.proofs.dual.dual_at.Goals.{After-gain}
@@ -31,3 +31,11 @@ pub returns-clause-fenchel : goal.returns-clause-fenchel
 returns-clause-fenchel g c = λ q p positive in_p. (
     let e = value_is g (goal.at.returns-clause-fenchel g c).After-gain in
     rw e (whole_tension q (g.C.Listed.listing c.args.curve.now) p c.args.v positive (g.met.C.Listed.is_list c.args.curve.now) in_p c.requires.inside))
+
+pub returns-clause-equality : goal.returns-clause-equality
+returns-clause-equality g c = λ x in_x. (
+    let e = value_is g (goal.at.returns-clause-equality g c).After-gain in
+    rw e (conjugate_cost-equality (g.C.Listed.listing c.args.curve.now) x c.args.v (g.met.C.Listed.is_list c.args.curve.now) c.requires.inside in_x))
+
+pub returns-clause-twice : goal.returns-clause-twice
+returns-clause-twice g c = conjugate-twice (g.C.Listed.listing c.args.curve.now) (g.met.C.Listed.is_list c.args.curve.now)

@@ -16,7 +16,7 @@ returns-else-below-len g c =
     turned_at (g.C.Listed.listing c.args.curve.now).items 1 (At c.args.v) c.args.below (g.met.C.Listed.is_list c.args.curve.now) c.requires
     (λ inside. elim c.else-below-len.branch [
       | else-below-len-via-then-below-len+else-not-precedes w ↦
-        (let told = subst (λ (z : ℤ). w.precedes.result ≡ is_below (At z) w.item.result) (to_z-of_z c.ranges.v) w.precedes.ensures in
+          (let told = subst (λ (z : ℤ). w.precedes.result ≡ is_below (At z) w.item.result) (to_z-of_z c.ranges.v) w.precedes.ensures in
           rw (← w.item.ensures) (sym told ∙ w.if-not-precedes.false))
       | else-below-len-via-else-below-len w ↦ absurd (omega (arith, w.if-below-len.false))
     ])
