@@ -197,8 +197,9 @@ shows_reads m None status text line word shows refused = let is = shows.0 in cc
 
 shows_answer : (arc : List ℕ) → IsModelAnswer (ShowsCurve arc)
 shows_answer arc = record {
-    own = λ m status text shows. shows_own m (place_of (arc_names m) arc) status text shows;
-    reads = λ m status text line word shows. shows_reads m (place_of (arc_names m) arc) status text line word shows }
+  own = λ m status text shows. shows_own m (place_of (arc_names m) arc) status text shows;
+  reads = λ m status text line word shows. shows_reads m (place_of (arc_names m) arc) status text line word shows;
+}
 
 shows_built : (m : Entries) (at : Option ℕ) (status : Status) (text : List ℕ) → ShowsAt m at status text → status ≢ Unbuilt
 shows_built m (Some j) status text shows unbuilt = let is = shows.0 in cc
@@ -233,21 +234,22 @@ due_of_model model Next answer outside status text reads =
     let files_due : IsDueOfFiles (model ∷ []) outside status = of_then First model [] (OfModel Next) outside status text
     (λ bytes next. of_own outside status (own_of_model Next answer bytes status text next)) reads in
     record {
-    listed = listed_then First model (OfModel Next) outside status text (λ bytes next. (own_of_model Next answer bytes status text next).0.listed) reads;
-    of_files = files_due;
-    refused = λ line word is files told.
-        let of = of_text model (OfModel Next) outside status text reads (λ e. cc) (λ e. cc) (λ e. cc) in
-        (of.bytes, of.held files told, of.short, refused_of_model Next answer of.bytes status text line word of.next is);
-    refused_always = λ files told line word asks quiet.
-        fault_is_refused Next asks.0 status text line word
-        (reached model (OfModel Next) outside status text reads (λ e. quiet (files_due.faulted e)) files told asks.0 asks.1 asks.2) asks.3;
-    next = λ own reads_it files told.
-        let of = of_text model (OfModel Next) outside status text reads own.0.held own.0.read own.0.short in
-        (of.bytes, of.held files told, of.short, model_of_next Next of.bytes status text reads_it of.next);
-    next_always = λ files told m asks read.
-        next_of_model Next asks.0 status text m
-        (reached model (OfModel Next) outside status text reads read files told asks.0 asks.1 asks.2) asks.3;
-    quiet = λ quiet e. quiet (files_due.faulted e) }
+      listed = listed_then First model (OfModel Next) outside status text (λ bytes next. (own_of_model Next answer bytes status text next).0.listed) reads;
+      of_files = files_due;
+      refused = λ line word is files told.
+          let of = of_text model (OfModel Next) outside status text reads (λ e. cc) (λ e. cc) (λ e. cc) in
+          (of.bytes, of.held files told, of.short, refused_of_model Next answer of.bytes status text line word of.next is);
+      refused_always = λ files told line word asks quiet.
+          fault_is_refused Next asks.0 status text line word
+          (reached model (OfModel Next) outside status text reads (λ e. quiet (files_due.faulted e)) files told asks.0 asks.1 asks.2) asks.3;
+      next = λ own reads_it files told.
+          let of = of_text model (OfModel Next) outside status text reads own.0.held own.0.read own.0.short in
+          (of.bytes, of.held files told, of.short, model_of_next Next of.bytes status text reads_it of.next);
+      next_always = λ files told m asks read.
+          next_of_model Next asks.0 status text m
+          (reached model (OfModel Next) outside status text reads read files told asks.0 asks.1 asks.2) asks.3;
+      quiet = λ quiet e. quiet (files_due.faulted e);
+    }
 
 -- what the status of an answer says; a new command is one more case
 pub due : (request : Option Request) (outside : Outside) (status : Status) (text : List ℕ) → Answers request outside status text → IsDue request outside status
@@ -255,38 +257,40 @@ due None outside status text refused = search rules
 due (Some (solve model)) outside status text answers =
     let all = due_of_model model SolvesModel solves_answer outside status text answers in
     record {
-    usage = λ is. absurd (all.listed is);
-    usage_always = λ none. cc;
-    of_files = all.of_files;
-    refused = all.refused;
-    refused_always = all.refused_always;
-    unbuilt = λ is files told.
-        let of = all.next (search rules) (λ line word e. cc) files told in
-        (of.0, of.1, of.2, (of.3.model, of.3.spells, solves_beyond of.3.model status text of.3.next is));
-    unbuilt_always = λ files told asks quiet.
-        beyond_solves asks.3.0 status text (all.next_always files told asks.3.0 (asks.0, asks.1, asks.2, asks.3.1) (all.quiet quiet)) asks.3.2;
-    unknown_arc = λ is files told.
-        let of = all.next (search rules) (λ line word e. cc) files told in
-        absurd (solves_known of.3.model status text of.3.next is);
-    unknown_arc_always = λ files told asks quiet. absurd asks }
+      usage = λ is. absurd (all.listed is);
+      usage_always = λ none. cc;
+      of_files = all.of_files;
+      refused = all.refused;
+      refused_always = all.refused_always;
+      unbuilt = λ is files told.
+          let of = all.next (search rules) (λ line word e. cc) files told in
+          (of.0, of.1, of.2, (of.3.model, of.3.spells, solves_beyond of.3.model status text of.3.next is));
+      unbuilt_always = λ files told asks quiet.
+          beyond_solves asks.3.0 status text (all.next_always files told asks.3.0 (asks.0, asks.1, asks.2, asks.3.1) (all.quiet quiet)) asks.3.2;
+      unknown_arc = λ is files told.
+          let of = all.next (search rules) (λ line word e. cc) files told in
+          absurd (solves_known of.3.model status text of.3.next is);
+      unknown_arc_always = λ files told asks quiet. absurd asks;
+    }
 due (Some (show_curve model arc)) outside status text answers =
     let all = due_of_model model (ShowsCurve arc) (shows_answer arc) outside status text answers in
     record {
-    usage = λ is. absurd (all.listed is);
-    usage_always = λ none. cc;
-    of_files = all.of_files;
-    refused = all.refused;
-    refused_always = all.refused_always;
-    unbuilt = λ is files told.
-        let of = all.next (search rules) (λ line word e. cc) files told in
-        absurd (shows_built of.3.model (place_of (arc_names of.3.model) arc) status text of.3.next is);
-    unbuilt_always = λ files told asks quiet. absurd asks;
-    unknown_arc = λ is files told.
-        let of = all.next (search rules) (λ line word e. cc) files told in
-        (of.0, of.1, of.2, (of.3.model, of.3.spells, shows_unknown of.3.model (place_of (arc_names of.3.model) arc) status text of.3.next is));
-    unknown_arc_always = λ files told asks quiet.
-        unknown_shows asks.3.0 (place_of (arc_names asks.3.0) arc) status text
-        (all.next_always files told asks.3.0 (asks.0, asks.1, asks.2, asks.3.1) (all.quiet quiet)) asks.3.2 }
+      usage = λ is. absurd (all.listed is);
+      usage_always = λ none. cc;
+      of_files = all.of_files;
+      refused = all.refused;
+      refused_always = all.refused_always;
+      unbuilt = λ is files told.
+          let of = all.next (search rules) (λ line word e. cc) files told in
+          absurd (shows_built of.3.model (place_of (arc_names of.3.model) arc) status text of.3.next is);
+      unbuilt_always = λ files told asks quiet. absurd asks;
+      unknown_arc = λ is files told.
+          let of = all.next (search rules) (λ line word e. cc) files told in
+          (of.0, of.1, of.2, (of.3.model, of.3.spells, shows_unknown of.3.model (place_of (arc_names of.3.model) arc) status text of.3.next is));
+      unknown_arc_always = λ files told asks quiet.
+          unknown_shows asks.3.0 (place_of (arc_names asks.3.0) arc) status text
+          (all.next_always files told asks.3.0 (asks.0, asks.1, asks.2, asks.3.1) (all.quiet quiet)) asks.3.2;
+    }
 
 -- the model of a request to solve is certified, where no fault kept the file from being read
 pub certified : (request : Option Request) (outside : Outside) (status : Status) (text : List ℕ) → Answers request outside status text

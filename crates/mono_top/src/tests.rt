@@ -26,7 +26,8 @@ const TOO_LITTLE: &[u8] = b"network 1\nnode s 5\nnode t -5\narc a s t 3\n";
 
 const ORDINARY: &[u8] = b"network 1\nnode s 5\nnode t -5\narc a s t 0 2 4 5 10\n";
 
-const CURVES: &[u8] = b"network 1\nnode s\nnode t\narc p s t 0 2 4 5 10\narc q s t 5\narc r s t -4 -1 +inf\narc w s t -inf 3 +inf\narc h s t 2 3 6 base 10\n";
+const CURVES: &[u8] =
+    b"network 1\nnode s\nnode t\narc p s t 0 2 4 5 10\narc q s t 5\narc r s t -4 -1 +inf\narc w s t -inf 3 +inf\narc h s t 2 3 6 base 10\n";
 
 /// One call: its words, over a source that holds the file `a` alone, and what comes of it.
 #[derive(Clone, Copy)]
@@ -124,11 +125,36 @@ fn rows(rt: HostRuntime) -> Result<(), Fail> {
             b"certificate 1 cut\ncapacity -4\nside s\n",
         ),
         plain(&["solve", "a"], ORDINARY, 13, b"unbuilt\n"),
-        plain(&["curve", "a", "p"], CURVES, 0, b"curve 0 2 4 5 10 base 0\nconjugate -inf 0 2 4 5 10 +inf base 0\n"),
-        plain(&["curve", "a", "q"], CURVES, 0, b"curve 5 base 0\nconjugate -inf 5 +inf base 0\n"),
-        plain(&["curve", "a", "r"], CURVES, 0, b"curve -4 -1 +inf base 0\nconjugate -inf -4 -1 base 0\n"),
-        plain(&["curve", "a", "w"], CURVES, 0, b"curve -inf 3 +inf base 0\nconjugate 3 base 0\n"),
-        plain(&["curve", "a", "h"], CURVES, 0, b"curve 2 3 6 base 10\nconjugate -inf 2 3 6 +inf base -10\n"),
+        plain(
+            &["curve", "a", "p"],
+            CURVES,
+            0,
+            b"curve 0 2 4 5 10 base 0\nconjugate -inf 0 2 4 5 10 +inf base 0\n",
+        ),
+        plain(
+            &["curve", "a", "q"],
+            CURVES,
+            0,
+            b"curve 5 base 0\nconjugate -inf 5 +inf base 0\n",
+        ),
+        plain(
+            &["curve", "a", "r"],
+            CURVES,
+            0,
+            b"curve -4 -1 +inf base 0\nconjugate -inf -4 -1 base 0\n",
+        ),
+        plain(
+            &["curve", "a", "w"],
+            CURVES,
+            0,
+            b"curve -inf 3 +inf base 0\nconjugate 3 base 0\n",
+        ),
+        plain(
+            &["curve", "a", "h"],
+            CURVES,
+            0,
+            b"curve 2 3 6 base 10\nconjugate -inf 2 3 6 +inf base -10\n",
+        ),
         plain(&["curve", "a", "z"], CURVES, 12, b"unknown arc\n"),
         plain(&["solve", "a"], b"", 5, b"model line 1: header\n"),
         plain(
