@@ -5,3 +5,4 @@ pub mod ReversedReadings
 pub mod FlatReadings
 pub mod FlowOf
 pub mod TurnedList
+pub mod SmallConjugate

@@ -9,7 +9,7 @@ use Rattle.theory.specs.declared.ext.Ext.TheVariants.{MinusInf, At, PlusInf}
 use Rattle.theory.specs.Sums.{Each}
 use Rattle.theory.specs.Ends.{whole, is_below}
 use Rattle.theory.specs.CurveList.{IsCurveList, Piece, pieces, first, last}
-use Rattle.theory.specs.Span.{span_low, span_high}
+use Rattle.theory.specs.Span.{InSpan, span_low, span_high}
 use Rattle.theory.specs.OnCurve.{FitsPiece, IsOnCurve}
 use Rattle.theory.specs.Views.{conjugate_items}
 use Rattle.theory.specs.Readings.{IsUnder, IsOver, AreBoth, IsSlopes, IsRange}
@@ -18,15 +18,15 @@ use Rattle.theory.specs.Certificate.{IsWithin}
 use Rattle.theory.proofs.Sums.{Each-zip}
 use Rattle.theory.proofs.Places.{first_at, last_at, each_piece}
 use Rattle.theory.proofs.Bounds.{item_within}
-use Rattle.theory.proofs.Pairs.{tension_of_flow}
-use Rattle.theory.proofs.ConjugateList.{conjugate-is_list}
+use Rattle.theory.proofs.Pairs.{tension_of_flow, flow_of_tension}
+use Rattle.theory.proofs.ConjugateList.{conjugate-is_list, conjugate-pair}
 use Rattle.mono_curve.proofs.ReadOff.{not_above_least, not_below_most}
 use Rattle.curve_views.specs.ConjugateFacts.{within_for}
-use Rattle.curve_views.proofs.ConjugateReadings.{slopes-conjugate}
+use Rattle.curve_views.proofs.ConjugateReadings.{pair_from_conjugate, slopes-conjugate}
 
--- ---- a tension beyond all slopes, and its neighbours
+-- ---- a tension beyond all slopes, and others no nearer to them
 
-fits_above : (n : ℕ) (x v w : ℤ) (k : Piece) → pos n <ℤ v → (v -ℤ pos 1) ≤ℤ w → IsWithin n k.slope → FitsPiece 1 x v k → FitsPiece 1 x w k
+fits_above : (n : ℕ) (x v w : ℤ) (k : Piece) → pos n <ℤ v → pos n ≤ℤ w → IsWithin n k.slope → FitsPiece 1 x v k → FitsPiece 1 x w k
 fits_above n x v w k above near small fits =
     let low = small.0 in
     let high = small.1 in
@@ -35,7 +35,7 @@ fits_above n x v w k above near small fits =
       ends_above = λ before. (let flat = fits.ends_above before in absurd (omega (arith, ints)));
     }
 
-fits_under : (n : ℕ) (x v w : ℤ) (k : Piece) → v <ℤ neg_ℤ (pos n) → w ≤ℤ (v +ℤ pos 1) → IsWithin n k.slope → FitsPiece 1 x v k → FitsPiece 1 x w k
+fits_under : (n : ℕ) (x v w : ℤ) (k : Piece) → v <ℤ neg_ℤ (pos n) → w ≤ℤ neg_ℤ (pos n) → IsWithin n k.slope → FitsPiece 1 x v k → FitsPiece 1 x w k
 fits_under n x v w k under near small fits =
     let low = small.0 in
     let high = small.1 in
@@ -48,19 +48,42 @@ module _ (n : ℕ) (items : List Ext) (list : IsCurveList items) (within : AreWi
   small_slopes : Each (λ k. IsWithin n k.slope) (pieces items)
   small_slopes = each_piece (λ k. IsWithin n k.slope) items list (λ k h. item_within n items within (2 * k + 1))
 
-  on_above : (x v w : ℤ) → pos n <ℤ v → (v -ℤ pos 1) ≤ℤ w → IsOnCurve 1 items x v → IsOnCurve 1 items x w
+  on_above : (x v w : ℤ) → pos n <ℤ v → pos n ≤ℤ w → IsOnCurve 1 items x v → IsOnCurve 1 items x w
   on_above x v w above near on =
       record {
         in_domain = on.in_domain;
         on_pieces = Each-zip (λ k. IsWithin n k.slope) (FitsPiece 1 x v) (FitsPiece 1 x w) (pieces items) (λ k. fits_above n x v w k above near) small_slopes on.on_pieces;
       }
 
-  on_under : (x v w : ℤ) → v <ℤ neg_ℤ (pos n) → w ≤ℤ (v +ℤ pos 1) → IsOnCurve 1 items x v → IsOnCurve 1 items x w
+  on_under : (x v w : ℤ) → v <ℤ neg_ℤ (pos n) → w ≤ℤ neg_ℤ (pos n) → IsOnCurve 1 items x v → IsOnCurve 1 items x w
   on_under x v w under near on =
       record {
         in_domain = on.in_domain;
         on_pieces = Each-zip (λ k. IsWithin n k.slope) (FitsPiece 1 x v) (FitsPiece 1 x w) (pieces items) (λ k. fits_under n x v w k under near) small_slopes on.on_pieces;
       }
+
+-- each tension of the span has a flow within the limit: the range at it is the slopes of the conjugate, where a flow
+-- beyond the limit can be drawn back to it
+pub record SmallFlow (n : ℕ) (items : List Ext) (v : ℤ) : Type 0 where
+  pub flow : ℤ
+  pub within : IsWithin n flow
+  pub pair : IsOnCurve 1 items flow v
+
+pub small_flow : (n : ℕ) (items : List Ext) (v : ℤ) → IsCurveList items → AreWithin n items → InSpan 1 items v → SmallFlow n items v
+small_flow n items v list within inside =
+    let some = flow_of_tension items v list inside in
+    let z = some.0 in
+    let turned = conjugate-pair 1 items z v list some.1 in
+    let conj_list = (conjugate-is_list items list).is_list in
+    let conj_within = within_for n items within in
+    by_lt_z z (neg_ℤ (pos n))
+    (λ beyond. drawn (neg_ℤ (pos n)) (omega (arith, ints), omega (arith, ints)) (on_under n (conjugate_items items) conj_list conj_within v z (neg_ℤ (pos n)) beyond (omega (arith, ints)) turned))
+    (λ above. by_lt_z (pos n) z
+    (λ beyond. drawn (pos n) (omega (arith, ints), omega (arith, ints)) (on_above n (conjugate_items items) conj_list conj_within v z (pos n) beyond (omega (arith, ints)) turned))
+    (λ under. record { flow = z; within = (above, under); pair = some.1 }))
+  where
+    drawn : (x : ℤ) → IsWithin n x → IsOnCurve 1 (conjugate_items items) v x → SmallFlow n items v
+    drawn x small pair = record { flow = x; within = small; pair = pair_from_conjugate items v x list pair }
 
 -- ---- outside the domain both slopes are infinite, inside there is a tension between them
 

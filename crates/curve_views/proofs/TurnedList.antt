@@ -47,6 +47,20 @@ length_of_shape (long {l = PlusInf} below more) = let h : false ≡ true = below
 pub length-conjugate : (items : List Ext) → IsCurveList items → length (conjugate_items items) ≡ turned_length (last items) (turned_length (first items) (length items))
 length-conjugate items list = length_of_shape (shape_by_place items list)
 
+at_most_longer : (e : Ext) (n : ℕ) → turned_length e n ≤ n + 1
+at_most_longer MinusInf n = omega arith
+at_most_longer (At a) n = omega arith
+at_most_longer PlusInf n = omega arith
+
+pub length-conjugate_most : (items : List Ext) → IsCurveList items → length (conjugate_items items) ≤ length items + 2
+length-conjugate_most items list =
+    let front = at_most_longer (first items) (length items) in
+    let back = at_most_longer (last items) (turned_length (first items) (length items)) in
+    rw (length-conjugate items list) (grown (turned_length (last items) (turned_length (first items) (length items))) (turned_length (first items) (length items)) (length items) back front)
+  where
+    grown : (a b n : ℕ) → a ≤ b + 1 → b ≤ n + 1 → a ≤ n + 2
+    grown a b n h g = omega arith
+
 -- ---- its items
 
 item-turned : (items : List Ext) (i : ℕ) → i < length (turned_back items) → item (turned_back items) i ≡ slice_index_or items i PlusInf
