@@ -2,6 +2,9 @@
 
 use net_incidence::{Flows, Marks, Walk};
 
+/// The greatest magnitude of a cost, a value, a capacity or a span.
+pub const SUM_MOST: i128 = 1_000_000_000_000_000_000_000_000_000_000;
+
 /// The evidence of an answer and its numbers. `x` is by grounded arc, `u` and `side` are by grounded node.
 #[derive(Drop)]
 pub enum Certificate {

@@ -5,26 +5,22 @@ ghost use Rattle.theory.specs.Certificate.{IsWithin, flow_most, sum_most};
 ghost use Rattle.model_text.specs.Printed.{printed_number};
 ghost use Rattle.cert_text.specs.Candidate.{IsLastNumber, AreLastNumbers};
 
+use crate::certificate::SUM_MOST;
 use crate::lines::{content, split_last_word};
-
-/// The greatest magnitude of a flow or a potential.
-const FLOW_MOST: u128 = 1_000_000_000_000_000;
-
-/// The greatest magnitude of a cost, a value, a capacity or a span.
-const SUM_MOST: u128 = 1_000_000_000_000_000_000_000_000_000_000;
+use mono_curve::FLOW_MOST;
 
 /// The cost, value, capacity or span at the end of the line.
 pub(crate) fn last_sum(line: &[u8]) -> i128
     ensures { IsLastNumber sum_most line.now result }
 {
-    number_of(split_last_word(content(line)).1, SUM_MOST)
+    number_of(split_last_word(content(line)).1, SUM_MOST as u128)
 }
 
 /// The flow at the end of the line.
 pub(crate) fn last_flow(line: &[u8]) -> i64
     ensures { IsLastNumber flow_most line.now result }
 {
-    number_of(split_last_word(content(line)).1, FLOW_MOST) as i64
+    number_of(split_last_word(content(line)).1, FLOW_MOST as u128) as i64
 }
 
 /// The potential and the flow at the end of the line.
@@ -34,8 +30,8 @@ pub(crate) fn last_pair(line: &[u8]) -> (i64, i64)
     let (front, flow) = split_last_word(content(line));
     let (_, potential) = split_last_word(front);
     (
-        number_of(potential, FLOW_MOST) as i64,
-        number_of(flow, FLOW_MOST) as i64,
+        number_of(potential, FLOW_MOST as u128) as i64,
+        number_of(flow, FLOW_MOST as u128) as i64,
     )
 }
 
