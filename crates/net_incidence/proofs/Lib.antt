@@ -4,3 +4,4 @@ pub mod Incident
 pub mod Divergence
 pub mod BadSteps
 pub mod SumParts
+pub mod Networks

@@ -4,6 +4,7 @@
 mod circuit;
 mod flow;
 mod incidence;
+mod laws;
 mod lists;
 mod net;
 mod sums;
