@@ -8,7 +8,8 @@ use Rattle.std.proofs.lemmas.Int.{ints}
 use Rattle.theory.specs.declared.network.Step.{Step}
 use Rattle.theory.specs.Network.{«at»}
 use Rattle.theory.specs.Grounded.{Entries, grounded}
-use Rattle.theory.specs.Certificate.{Certificate, Fits, IsWithin, flow_most, sum_most, AreNumbers, IsPotentialOf}
+use Rattle.theory.specs.Limits.{IsWithin, flow_most, sum_most}
+use Rattle.theory.specs.Certificate.{Certificate, Fits, AreNumbers, IsPotentialOf}
 use Rattle.theory.specs.Certificate.Certificate.{optimal, cut, circuit}
 use Rattle.theory.proofs.GroundedLaw.{length-grounded_arcs}
 use Rattle.model_text.specs.Model.{IsWellFormed}

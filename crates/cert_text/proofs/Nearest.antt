@@ -10,7 +10,7 @@ use Rattle.theory.specs.Network.{«at»}
 use Rattle.theory.specs.Circuit.{step}
 use Rattle.theory.specs.Cut.{holds}
 use Rattle.theory.specs.Grounded.{Entries, arc_name, node_name}
-use Rattle.theory.specs.Certificate.{IsWithin, flow_most, sum_most}
+use Rattle.theory.specs.Limits.{IsWithin, flow_most, sum_most}
 use Rattle.model_text.specs.Model.{IsWellFormed}
 use Rattle.model_text.specs.Printed.{printed_number, printed_line}
 use Rattle.cert_text.specs.CertificateText.{texts_below, number_line, potential_line, flow_line, node_line, side_line, step_line}

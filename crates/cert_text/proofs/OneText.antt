@@ -15,7 +15,8 @@ use Rattle.theory.specs.Network.{«at»}
 use Rattle.theory.specs.Circuit.{step}
 use Rattle.theory.specs.Cut.{holds}
 use Rattle.theory.specs.Grounded.{Entries, arc_name, node_name}
-use Rattle.theory.specs.Certificate.{Certificate, IsWithin, flow_most, sum_most}
+use Rattle.theory.specs.Limits.{IsWithin, flow_most, sum_most}
+use Rattle.theory.specs.Certificate.{Certificate}
 use Rattle.model_text.specs.Model.{IsWellFormed}
 use Rattle.model_text.specs.Printed.{printed_number}
 use Rattle.cert_text.specs.BadLine.{pieces, IsRightFor, IsTextOf, IsBadLine}

@@ -9,7 +9,7 @@ use Rattle.theory.specs.declared.network.Step.{Step}
 use Rattle.theory.specs.Network.{«at»}
 use Rattle.theory.specs.Circuit.{step}
 use Rattle.theory.specs.Grounded.{Entries}
-use Rattle.theory.specs.Certificate.{flow_most, IsWithin}
+use Rattle.theory.specs.Limits.{flow_most, IsWithin}
 use Rattle.cert_text.specs.CertificateText.{node_line}
 use Rattle.cert_text.specs.Candidate.{first_line, after_line, after, line_at, left_at, takes, AreFlowsRead, ArePairsRead, IsSideRead, IsLastNumber, AreLastNumbers, IsStepRead}
 

@@ -9,7 +9,7 @@ use Rattle.std.proofs.lemmas.List.Folds.{list_all-append}
 use Rattle.theory.specs.declared.network.Step.{Step}
 use Rattle.theory.specs.Network.{«at»}
 use Rattle.theory.specs.Grounded.{Entries, NodeEntry, arc_name, node_name}
-use Rattle.theory.specs.Certificate.{IsWithin, flow_most, sum_most}
+use Rattle.theory.specs.Limits.{IsWithin, flow_most, sum_most}
 use Rattle.model_text.specs.Model.{IsWellFormed, node_at}
 use Rattle.model_text.specs.Names.{is_name}
 use Rattle.model_text.specs.Printed.{printed_line, printed_number, spaced}

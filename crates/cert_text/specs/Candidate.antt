@@ -9,7 +9,8 @@ use Rattle.theory.specs.Network.{«at»}
 use Rattle.theory.specs.Cut.{holds}
 use Rattle.theory.specs.Circuit.{step}
 use Rattle.theory.specs.Grounded.{Entries, grounded}
-use Rattle.theory.specs.Certificate.{Certificate, Fits, IsWithin, flow_most, sum_most}
+use Rattle.theory.specs.Limits.{IsWithin, flow_most, sum_most}
+use Rattle.theory.specs.Certificate.{Certificate, Fits}
 use Rattle.theory.specs.Certificate.Certificate.{optimal, cut, circuit}
 use Rattle.model_text.specs.Model.{node_names, arc_names, place_of}
 use Rattle.model_text.specs.Printed.{printed_number}

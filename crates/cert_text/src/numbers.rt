@@ -1,7 +1,7 @@
 // Numbers at the ends of lines.
 ghost use Rattle.std.specs.Prelude.{◌≡◌, ℕ, ◌^◌, ◌≤◌, ℤ};
 ghost use Rattle.std.specs.Fmt.{decimal};
-ghost use Rattle.theory.specs.Certificate.{IsWithin, flow_most, sum_most};
+ghost use Rattle.theory.specs.Limits.{IsWithin, flow_most, sum_most};
 ghost use Rattle.model_text.specs.Printed.{printed_number};
 ghost use Rattle.cert_text.specs.Candidate.{IsLastNumber, AreLastNumbers};
 

@@ -13,8 +13,7 @@ use Rattle.theory.specs.Cost.{cost}
 use Rattle.theory.specs.ConjugateCost.{conjugate_cost}
 use Rattle.theory.specs.OnCurve.{IsOnCurve}
 use Rattle.theory.specs.Readings.{IsUnder, IsOver, IsRange}
-use Rattle.theory.specs.Limits.{AreWithin}
-use Rattle.theory.specs.Certificate.{IsWithin}
+use Rattle.theory.specs.Limits.{AreWithin, IsWithin}
 use Rattle.theory.proofs.Rings.{one_times}
 use Rattle.theory.proofs.Shape.{shape_by_place}
 use Rattle.theory.proofs.Pairs.{flow_of_tension}

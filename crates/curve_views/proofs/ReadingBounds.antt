@@ -13,8 +13,7 @@ use Rattle.theory.specs.Span.{InSpan, span_low, span_high}
 use Rattle.theory.specs.OnCurve.{FitsPiece, IsOnCurve}
 use Rattle.theory.specs.Views.{conjugate_items}
 use Rattle.theory.specs.Readings.{IsUnder, IsOver, AreBoth, IsSlopes, IsRange}
-use Rattle.theory.specs.Limits.{AreWithin}
-use Rattle.theory.specs.Certificate.{IsWithin}
+use Rattle.theory.specs.Limits.{AreWithin, IsWithin}
 use Rattle.theory.proofs.Sums.{Each-zip}
 use Rattle.theory.proofs.Places.{first_at, last_at, each_piece}
 use Rattle.theory.proofs.Bounds.{item_within}

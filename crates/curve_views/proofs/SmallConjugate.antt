@@ -6,8 +6,7 @@ use Rattle.theory.specs.CurveList.{IsCurveList, Listing}
 use Rattle.theory.specs.Cost.{cost}
 use Rattle.theory.specs.Span.{rest_tension}
 use Rattle.theory.specs.Views.{conjugate_of}
-use Rattle.theory.specs.Limits.{AreWithin, number_most, base_most}
-use Rattle.theory.specs.Certificate.{IsWithin}
+use Rattle.theory.specs.Limits.{AreWithin, number_most, base_most, IsWithin}
 use Rattle.theory.proofs.Bounds.{within_more, within_product, within_difference, cost-within, rest_tension-within}
 use Rattle.curve_views.proofs.ReadingBounds.{small_flow}
 use Rattle.curve_views.proofs.FlowOf.{conjugate_cost-pair, rest_tension-in_span}

@@ -7,8 +7,7 @@ use Rattle.theory.specs.declared.ext.Ext.TheVariants.{MinusInf, At, PlusInf}
 use Rattle.theory.specs.Ends.{whole}
 use Rattle.theory.specs.CurveList.{IsCurveList, item}
 use Rattle.theory.specs.Views.{turned_front, turned_back, conjugate_items}
-use Rattle.theory.specs.Limits.{AreWithin, number_most}
-use Rattle.theory.specs.Certificate.{IsWithin}
+use Rattle.theory.specs.Limits.{AreWithin, number_most, IsWithin}
 use Rattle.theory.proofs.Bounds.{item_within, length-short}
 use Rattle.theory.proofs.ConjugateList.{conjugate-is_list}
 

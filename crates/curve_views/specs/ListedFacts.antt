@@ -1,33 +1,25 @@
 -- What the views keep of a base: the conjugate's conjugate has the curve's own base, the reversed curve its base and the
 -- base of its conjugate.
 use Rattle.std.specs.Prelude.{◌≡◌, ◌*◌, ℤ, pos, neg_ℤ, false, List, ◌∷◌}
-use Rattle.std.proofs.Common.{sym, subst, ◌∙◌, ap, arith}
-use Rattle.std.proofs.lemmas.Int.{ints}
+use Rattle.std.proofs.Common.{sym, subst, ◌∙◌, ap}
 use Rattle.theory.specs.declared.ext.Ext.{Ext}
 use Rattle.theory.specs.Ends.{is_below}
-use Rattle.theory.specs.CurveList.{IsCurveList, Listing, first, last}
+use Rattle.theory.specs.CurveList.{IsCurveList, Listing}
 use Rattle.theory.specs.Span.{span_low, span_high, rest_tension}
 use Rattle.theory.specs.ConjugateCost.{conjugate_cost}
 use Rattle.theory.specs.Views.{conjugate_items, conjugate_of, reversed_items, reversed_of}
-use Rattle.theory.specs.Limits.{base_most}
-use Rattle.theory.specs.Certificate.{IsWithin}
-use Rattle.theory.proofs.Ends.{not_above}
-use Rattle.theory.proofs.Shape.{Shape, single, long, shape_by_place}
-use Rattle.theory.proofs.ZeroCost.{below_last}
+use Rattle.theory.specs.Limits.{base_most, IsWithin}
+use Rattle.theory.proofs.Shape.{shape_by_place}
 use Rattle.theory.proofs.ConjugateList.{conjugate-is_list}
 use Rattle.theory.proofs.ConjugateCost.{conjugate-twice}
 use Rattle.theory.proofs.ReversedPairs.{span_low-reversed, span_high-reversed}
-use Rattle.theory.proofs.ReversedCost.{clip-turned, conjugate_cost-reversed}
+use Rattle.theory.proofs.ReversedCost.{ordered_ends, clip-turned, conjugate_cost-reversed}
 
 pub conjugate_twice_base_within : (c : Listing) → IsCurveList c.items → IsWithin (2 * base_most) c.base → IsWithin (2 * base_most) (conjugate_of (conjugate_of c)).base
 conjugate_twice_base_within c list within =
     subst (λ (d : Listing). IsWithin (2 * base_most) d.base) (sym (conjugate-twice c list)) within
 
 -- ---- the reversed curve rests at the opposite tension
-
-ordered_ends : {items : List Ext} → Shape items → is_below (last items) (first items) ≡ false
-ordered_ends (single {p = p}) = sym (omega (arith, ints))
-ordered_ends (long {l = l} {m = m} {rest = rest} below more) = not_above l (last (m ∷ rest)) (below_last l below more)
 
 ordered_span : (items : List Ext) → IsCurveList items → is_below (span_high items) (span_low items) ≡ false
 ordered_span items list =

@@ -7,8 +7,7 @@ use Rattle.theory.specs.declared.ext.Ext.TheVariants.{MinusInf, At, PlusInf}
 use Rattle.theory.specs.Ends.{whole, negated}
 use Rattle.theory.specs.CurveList.{IsCurveList, item}
 use Rattle.theory.specs.Views.{reversed_items}
-use Rattle.theory.specs.Limits.{AreWithin, number_most}
-use Rattle.theory.specs.Certificate.{IsWithin}
+use Rattle.theory.specs.Limits.{AreWithin, number_most, IsWithin}
 use Rattle.theory.proofs.Bounds.{length-short}
 use Rattle.theory.proofs.ReversedList.{item-reversed, length-reversed, reversed-is_list}
 

@@ -7,8 +7,7 @@ use Rattle.theory.specs.declared.ext.Ext.TheVariants.{At}
 use Rattle.theory.specs.Ends.{whole}
 use Rattle.theory.specs.CurveList.{IsCurveList, last}
 use Rattle.theory.specs.Views.{zero_cost_items}
-use Rattle.theory.specs.Limits.{AreWithin, number_most}
-use Rattle.theory.specs.Certificate.{IsWithin}
+use Rattle.theory.specs.Limits.{AreWithin, number_most, IsWithin}
 use Rattle.theory.proofs.Places.{last_at}
 use Rattle.theory.proofs.Bounds.{item_within, length-short}
 use Rattle.theory.proofs.ZeroCost.{zero_cost-is_list}

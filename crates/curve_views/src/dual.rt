@@ -10,8 +10,7 @@ ghost use Rattle.theory.specs.ConjugateCost.{conjugate_cost};
 ghost use Rattle.theory.specs.Views.{conjugate_of};
 ghost use Rattle.theory.specs.OnCurve.{IsOnCurve};
 ghost use Rattle.theory.specs.Readings.{IsRange};
-ghost use Rattle.theory.specs.Limits.{number_most};
-ghost use Rattle.theory.specs.Certificate.{IsWithin, flow_most};
+ghost use Rattle.theory.specs.Limits.{number_most, IsWithin, flow_most};
 ghost use Rattle.mono_curve.specs.Halving.{IsTurn, count_from, is_item_below, is_item_up_to};
 ghost use Rattle.curve_views.specs.FlowBetween.{flow_between};
 

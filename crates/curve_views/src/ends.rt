@@ -1,8 +1,7 @@
 // Numbers and ends of the opposite sign.
 ghost use Rattle.std.specs.Prelude.{◌≡◌, neg_ℤ};
 ghost use Rattle.theory.specs.Ends.{is_below, negated, whole};
-ghost use Rattle.theory.specs.Limits.{number_most, arg_most};
-ghost use Rattle.theory.specs.Certificate.{IsWithin};
+ghost use Rattle.theory.specs.Limits.{number_most, arg_most, IsWithin};
 
 use theory::Ext;
 

@@ -1,7 +1,6 @@
 // Views of curves worked by hand: their lists and bases, the conjugate cost, and readings.
 ghost use Rattle.std.specs.Prelude.{◌≡◌, ◌<◌};
-ghost use Rattle.theory.specs.Limits.{arg_most};
-ghost use Rattle.theory.specs.Certificate.{IsWithin};
+ghost use Rattle.theory.specs.Limits.{arg_most, IsWithin};
 
 use crate::{Conjugate, Reversed, ZeroCost, dual_at};
 use mono_curve::{Curve, Listed, Monotone, Steps, span_of};

@@ -1,7 +1,6 @@
 // The grounded network of a small model, worked by hand.
 ghost use Rattle.std.specs.Prelude.{◌≤◌, length, IfOk};
-ghost use Rattle.theory.specs.Certificate.{IsWithin};
-ghost use Rattle.theory.specs.Limits.{number_most};
+ghost use Rattle.theory.specs.Limits.{number_most, IsWithin};
 ghost use Rattle.model_text.specs.declared.model.TheConstants.{LIST_MOST};
 
 use crate::{Grounded, ground};

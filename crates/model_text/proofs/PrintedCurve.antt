@@ -7,10 +7,9 @@ use Rattle.std.proofs.lemmas.Bool.Decides.{nat_tests, Decides-int_eq}
 use Rattle.std.proofs.lemmas.List.{get_or-take, get_or-drop}
 use Rattle.std.proofs.lemmas.Grind.{get_or_after_one}
 use Rattle.std.proofs.lemmas.Slice.Zip.{get_or-zip, length-zip}
-use Rattle.theory.specs.Certificate.{IsWithin}
 use Rattle.theory.specs.CurveList.{IsCurveList, item}
 use Rattle.theory.specs.Ends.{whole, is_finite, is_below, IsFinite, IsBelow}
-use Rattle.theory.specs.Limits.{AreWithin, number_most}
+use Rattle.theory.specs.Limits.{AreWithin, number_most, IsWithin}
 use Rattle.theory.specs.declared.ext.Ext.{Ext}
 use Rattle.theory.specs.declared.ext.Ext.TheVariants.{MinusInf, At, PlusInf}
 use Rattle.model_text.specs.ModelText.{is_base_word, is_over, are_over, is_no_base, is_misplaced, is_minus_inf, is_plus_inf, has_fall, word_at}

@@ -11,9 +11,8 @@ use Rattle.std.proofs.lemmas.Bool.Decides.{nat_tests}
 use Rattle.std.proofs.lemmas.Fmt.{digits_decimal, digits_value-decimal, decimal_nonempty}
 use Rattle.std.proofs.lemmas.Int.{ints}
 use Rattle.std.proofs.lemmas.Str.Parse.{IsNumeralModel, numerals_by_value, tells_all_ascii_digits}
-use Rattle.theory.specs.Certificate.{IsWithin}
 use Rattle.theory.specs.Ends.{whole}
-use Rattle.theory.specs.Limits.{number_most}
+use Rattle.theory.specs.Limits.{number_most, IsWithin}
 use Rattle.theory.specs.declared.ext.Ext.{Ext}
 use Rattle.theory.specs.declared.ext.Ext.TheVariants.{MinusInf, At, PlusInf}
 use Rattle.model_text.specs.ModelText.{is_base_word}

@@ -9,10 +9,9 @@ use Rattle.std.proofs.lemmas.Bool.Decides.{nat_tests}
 use Rattle.std.proofs.lemmas.Int.{ints}
 use Rattle.theory.specs.declared.ext.Ext.{Ext}
 use Rattle.theory.specs.declared.ext.Ext.TheVariants.{MinusInf, At, PlusInf}
-use Rattle.theory.specs.Certificate.{IsWithin}
 use Rattle.theory.specs.CurveList.{IsCurveList, item}
 use Rattle.theory.specs.Ends.{IsFinite, IsBelow, is_finite, is_below, whole}
-use Rattle.theory.specs.Limits.{number_most, base_most, AreWithin}
+use Rattle.theory.specs.Limits.{number_most, base_most, AreWithin, IsWithin}
 use Rattle.mono_curve.specs.Faults.{may_stand, IsPlaced, Rises, IsFault}
 use Rattle.mono_curve.specs.declared.fault.CurveFault.{CurveFault}
 use Rattle.mono_curve.specs.declared.fault.CurveFault.TheVariants.{Even, Long, Infinite, Magnitude, Order, NoMemory}

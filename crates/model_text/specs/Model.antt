@@ -1,9 +1,8 @@
 -- A model as its entries, in the order of their lines, and what every model keeps.
 use Rattle.std.specs.Prelude.{◌≢◌, ℕ, ◌≤◌, Option, None, Some, is_some, nat_le, ◌==◌, if◌then◌else◌, pos, List, [], ◌∷◌, ◌++◌, map, length, position, slice_index_or, All, AllPairs, bytes_eq}
-use Rattle.theory.specs.Certificate.{IsWithin}
 use Rattle.theory.specs.CurveList.{Listing}
 use Rattle.theory.specs.Grounded.{Entries, NodeEntry, ArcEntry, IsModel}
-use Rattle.theory.specs.Limits.{AreWithin, number_most}
+use Rattle.theory.specs.Limits.{AreWithin, number_most, IsWithin}
 use Rattle.model_text.specs.Names.{IsName}
 use Rattle.model_text.specs.declared.model.AddFault.{AddFault}
 use Rattle.model_text.specs.declared.model.AddFault.TheVariants.{Twice, Loop, Full}

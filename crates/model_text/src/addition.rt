@@ -1,7 +1,6 @@
 // What a line that passes the tests adds to the model.
 ghost use Rattle.std.specs.Prelude.{◌≡◌, ◌==◌, ◌≤◌, ◌<◌, if◌then◌else◌, false, None, IfOk, OnOk, length};
-ghost use Rattle.theory.specs.Certificate.{IsWithin};
-ghost use Rattle.theory.specs.Limits.{number_most};
+ghost use Rattle.theory.specs.Limits.{number_most, IsWithin};
 ghost use Rattle.model_text.specs.Model.{node_fault, arc_fault, with_node, with_arc};
 ghost use Rattle.model_text.specs.ModelText.{first_fault, with_line, line_items, line_base, line_listing, word_at, lacks_names, is_beyond, is_misshapen, has_fall};
 ghost use Rattle.model_text.specs.LineParts.{texts, number_tests, model_tests};

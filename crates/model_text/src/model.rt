@@ -58,8 +58,7 @@ impl std::marker::Model for Model {
 }
 
 impl Model {
-    ghost use Rattle.theory.specs.Certificate.{IsWithin};
-    ghost use Rattle.theory.specs.Limits.{number_most};
+    ghost use Rattle.theory.specs.Limits.{number_most, IsWithin};
     ghost use Rattle.model_text.specs.Model.{no_entries, with_node, with_arc, node_fault, arc_fault, node_names, arc_names, node_at, arc_at, place_of};
 
     /// A model with no node and no arc.

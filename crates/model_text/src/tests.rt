@@ -1,7 +1,6 @@
 // Names and printed models, with values from the format's own description.
 ghost use Rattle.std.specs.Prelude.{◌≤◌, length, IfOk};
-ghost use Rattle.theory.specs.Certificate.{IsWithin};
-ghost use Rattle.theory.specs.Limits.{number_most};
+ghost use Rattle.theory.specs.Limits.{number_most, IsWithin};
 
 use crate::{LIST_MOST, Model, NAME_MOST, Name, is_name, print_model};
 use mono_curve::{Curve, Ext};

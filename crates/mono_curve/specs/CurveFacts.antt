@@ -2,8 +2,7 @@
 use Rattle.std.specs.Prelude.{◌+◌, ◌*◌, ◌≤◌, length}
 use Rattle.std.proofs.Common.{lit≤}
 use Rattle.theory.specs.Views.{conjugate_of}
-use Rattle.theory.specs.Limits.{number_most, base_most}
-use Rattle.theory.specs.Certificate.{IsWithin}
+use Rattle.theory.specs.Limits.{number_most, base_most, IsWithin}
 use Rattle.theory.proofs.Bounds.{length-short, conjugate_base-within, within_more}
 use Rattle.mono_curve.specs.CurveValue.{CurveValue}
 

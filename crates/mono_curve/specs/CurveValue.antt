@@ -1,8 +1,7 @@
 -- What a curve is, seen from outside: its list and base, and that they are those of a curve within the limits.
 use Rattle.std.specs.Prelude.{ℕ, ◌≤◌, length}
 use Rattle.theory.specs.CurveList.{IsCurveList, Listing}
-use Rattle.theory.specs.Limits.{AreWithin, number_most, base_most}
-use Rattle.theory.specs.Certificate.{IsWithin}
+use Rattle.theory.specs.Limits.{AreWithin, number_most, base_most, IsWithin}
 
 -- the most items of a curve: those of a model's list, and one more at either end
 abbrev pub items_most : ℕ

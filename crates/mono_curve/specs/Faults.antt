@@ -4,8 +4,7 @@ use Rattle.theory.specs.declared.ext.Ext.{Ext}
 use Rattle.theory.specs.declared.ext.Ext.TheVariants.{MinusInf, At, PlusInf}
 use Rattle.theory.specs.Ends.{whole, IsBelow}
 use Rattle.theory.specs.CurveList.{item}
-use Rattle.theory.specs.Limits.{AreWithin, number_most, base_most}
-use Rattle.theory.specs.Certificate.{IsWithin}
+use Rattle.theory.specs.Limits.{AreWithin, number_most, base_most, IsWithin}
 use Rattle.mono_curve.specs.declared.fault.CurveFault.{CurveFault}
 use Rattle.mono_curve.specs.declared.fault.CurveFault.TheVariants.{Even, Long, Infinite, Magnitude, Order, NoMemory}
 use Rattle.mono_curve.specs.CurveValue.{IsValidCurve, items_most}

@@ -1,7 +1,6 @@
 // A curve that keeps its list.
 ghost use Rattle.std.specs.Prelude.{◌≡◌, ◌≤◌, ◌*◌, IfOk, IfErr, length};
-ghost use Rattle.theory.specs.Limits.{base_most};
-ghost use Rattle.theory.specs.Certificate.{IsWithin};
+ghost use Rattle.theory.specs.Limits.{base_most, IsWithin};
 ghost use Rattle.mono_curve.specs.CurveValue.{IsValidCurve, items_most};
 
 use crate::fault::CurveFault;

@@ -1,8 +1,7 @@
 // The tests of a list, in their order.
 ghost use Rattle.std.specs.Prelude.{◌≡◌, ◌↔◌, ◌<◌, IsTrue, OnOk, IfErr, length};
 ghost use Rattle.theory.specs.Ends.{whole, is_below};
-ghost use Rattle.theory.specs.Limits.{number_most, base_most};
-ghost use Rattle.theory.specs.Certificate.{IsWithin};
+ghost use Rattle.theory.specs.Limits.{number_most, base_most, IsWithin};
 ghost use Rattle.mono_curve.specs.CurveValue.{IsValidCurve};
 ghost use Rattle.mono_curve.specs.Faults.{may_stand, IsPlaced, IsSmall, Rises};
 ghost use Rattle.mono_curve.specs.Faults.{IsFirstFailure, IsFault};

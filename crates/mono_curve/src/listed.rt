@@ -1,8 +1,7 @@
 // Curves whose lists can be read item by item.
 ghost use Rattle.std.specs.Prelude.{◌≡◌, ◌+◌, ◌*◌, ◌<◌, ◌≤◌, length};
 ghost use Rattle.theory.specs.CurveList.{IsCurveList, Listing, item};
-ghost use Rattle.theory.specs.Limits.{AreWithin, number_most, base_most};
-ghost use Rattle.theory.specs.Certificate.{IsWithin};
+ghost use Rattle.theory.specs.Limits.{AreWithin, number_most, base_most, IsWithin};
 ghost use Rattle.theory.specs.Views.{conjugate_of};
 
 use theory::Ext;

@@ -8,7 +8,7 @@ ghost use Rattle.theory.specs.Span.{InSpan, span_low, span_high};
 ghost use Rattle.theory.specs.ConjugateCost.{conjugate_cost};
 ghost use Rattle.theory.specs.OnCurve.{FitsPiece, IsOnCurve};
 ghost use Rattle.theory.specs.PieceAt.{piece_at};
-ghost use Rattle.theory.specs.Certificate.{IsWithin, flow_most};
+ghost use Rattle.theory.specs.Limits.{IsWithin, flow_most};
 
 use crate::listed::Listed;
 use theory::Ext;

@@ -1,7 +1,6 @@
 // Curves worked by hand: the cost and every reading, and each fault with its text.
 ghost use Rattle.std.specs.Prelude.{◌≡◌, ◌↔◌, ◌<◌, IsTrue};
-ghost use Rattle.theory.specs.Limits.{arg_most};
-ghost use Rattle.theory.specs.Certificate.{IsWithin};
+ghost use Rattle.theory.specs.Limits.{arg_most, IsWithin};
 
 use crate::{
     ARG_MOST, BASE_MOST, Curve, CurveFault, FLOW_MOST, Listed, Monotone, Steps, cost_at, domain_of,

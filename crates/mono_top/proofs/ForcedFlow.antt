@@ -23,8 +23,8 @@ use Rattle.theory.specs.Totals.{total_cost, total_value}
 use Rattle.theory.specs.Cut.{holds, cut_end, CutCounts, cut_sum}
 use Rattle.mono_top.specs.Forced.{IsPoint, IsForced, forced, IsForcedBelow, IsForcedFlow, IsBaseSum, total_base}
 use Rattle.net_incidence.specs.Graph.{Graph, network, bare}
-use Rattle.theory.specs.Limits.{number_most, base_most}
-use Rattle.theory.specs.Certificate.{IsWithin, flow_most, sum_most, IsValid}
+use Rattle.theory.specs.Limits.{number_most, base_most, IsWithin, flow_most, sum_most}
+use Rattle.theory.specs.Certificate.{IsValid}
 use Rattle.theory.specs.Certificate.Certificate.{optimal, cut}
 use Rattle.theory.specs.Grounded.{Entries, IsModel, NodeEntry, ArcEntry, grounded}
 use Rattle.theory.proofs.GroundedLaw.{by_arc, curve-ground, curve-model}

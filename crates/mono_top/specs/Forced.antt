@@ -4,10 +4,9 @@ use Rattle.theory.specs.declared.ext.Ext.{Ext}
 use Rattle.theory.specs.declared.ext.Ext.TheVariants.{At}
 use Rattle.theory.specs.Sums.{sum_below}
 use Rattle.theory.specs.Ends.{whole}
-use Rattle.theory.specs.Limits.{base_most}
+use Rattle.theory.specs.Limits.{base_most, IsWithin, flow_most}
 use Rattle.theory.specs.CurveList.{first}
 use Rattle.theory.specs.Network.{Network, «at», curve, over_arcs}
-use Rattle.theory.specs.Certificate.{IsWithin, flow_most}
 
 -- the list is the one point
 pub record IsPoint (items : List Ext) : Type 0 where

@@ -2,7 +2,8 @@
 ghost use Rattle.std.specs.Prelude.{◌≡◌, ℕ, ◌<◌, pos, ◌≤ℤ◌, ◌<ℤ◌, length, replicate, slice_set, true, false, IsTrue, ◌↔◌, IfOk, IfSome, IfNone};
 ghost use Rattle.theory.specs.Network.{«at»};
 ghost use Rattle.theory.specs.Conserved.{divergence};
-ghost use Rattle.theory.specs.Certificate.{IsValid, IsWithin, sum_most};
+ghost use Rattle.theory.specs.Limits.{IsWithin, sum_most};
+ghost use Rattle.theory.specs.Certificate.{IsValid};
 ghost use Rattle.net_incidence.specs.Graph.{bare};
 ghost use Rattle.cert_text.specs.Shown.{shown};
 ghost use Rattle.model_text.specs.Model.{node_at, arc_at};

@@ -1,6 +1,6 @@
 // Sums over cuts and walks of the ends of curves.
 ghost use Rattle.std.specs.Prelude.{◌≡◌, ◌^◌, ◌<◌, length, map, IfSome};
-ghost use Rattle.theory.specs.Certificate.{IsWithin};
+ghost use Rattle.theory.specs.Limits.{IsWithin};
 ghost use Rattle.theory.specs.Ends.{negated};
 ghost use Rattle.theory.specs.Circuit.{WalkIsThere};
 ghost use Rattle.net_incidence.specs.Graph.{bare, network};

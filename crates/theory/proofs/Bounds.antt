@@ -17,9 +17,8 @@ use Rattle.theory.specs.Span.{span_low, span_high, rest_tension}
 use Rattle.theory.specs.ConjugateCost.{with_finite, finite_points, or_one, listed_points}
 use Rattle.theory.specs.Views.{conjugate_of}
 use Rattle.theory.specs.Cost.{rise, cost}
-use Rattle.theory.specs.Limits.{AreWithin, number_most, base_most}
+use Rattle.theory.specs.Limits.{AreWithin, number_most, base_most, IsWithin, flow_most}
 use Rattle.theory.specs.PieceAt.{piece_at}
-use Rattle.theory.specs.Certificate.{IsWithin, flow_most}
 use Rattle.theory.proofs.Shape.{less_of}
 use Rattle.theory.proofs.Places.{first_at, last_at, sum_over-pieces}
 

@@ -1,3 +1,5 @@
+-- The first of many:
+pub mod First
 -- Arithmetic of whole numbers:
 pub mod Rings
 pub mod Sums

@@ -75,7 +75,7 @@ rise-turned q y x k below =
     turned_product k.slope _ _ _ _ (clip-turned q k.left k.right x order) (clip-turned q k.left k.right y order)
 
 -- the domain's ends are in order
-ordered_ends : {items : List Ext} → Shape items → is_below (last items) (first items) ≡ false
+pub ordered_ends : {items : List Ext} → Shape items → is_below (last items) (first items) ≡ false
 ordered_ends (single {p = p}) = not_above_itself p
 ordered_ends (long {l = l} {m = m} {rest = rest} below more) = not_above l (last (m ∷ rest)) (below_last l below more)
 

@@ -1,8 +1,9 @@
 -- Certificate: the evidence that a solve ends with. A flow with a potential is optimal; a cut shows that there is no
 -- feasible flow; a flow with a circuit shows that no plan is bounded. The bare certificate is the evidence alone, the
 -- certificate has its numbers too.
-use Rattle.std.specs.Prelude.{◌≡◌, ℕ, ◌^◌, ◌<◌, ℤ, pos, neg_ℤ, ◌≤ℤ◌, Bool, List, length}
+use Rattle.std.specs.Prelude.{◌≡◌, ℕ, ◌^◌, ◌<◌, ℤ, pos, Bool, List, length}
 use Rattle.theory.specs.declared.network.Step.{Step}
+use Rattle.theory.specs.Limits.{IsWithin, flow_most, sum_most}
 use Rattle.theory.specs.Network.{Network, «at», curve}
 use Rattle.theory.specs.Conserved.{IsConserved, tension}
 use Rattle.theory.specs.OnCurve.{IsOnCurve}
@@ -27,15 +28,6 @@ bare (cut side capacity) = negative_cut side
 bare (circuit x walk span) = negative_circuit x walk
 
 -- ---- what fits a network: the right counts, and numbers within the limits
-
-abbrev pub IsWithin : ℕ → ℤ → Type 0
-IsWithin most z = (neg_ℤ (pos most) ≤ℤ z) × (z ≤ℤ pos most)
-
-abbrev pub flow_most : ℕ
-flow_most = 10 ^ 15
-
-abbrev pub sum_most : ℕ
-sum_most = 10 ^ 30
 
 -- a number for each, within the limit
 pub record AreNumbers (count : ℕ) (xs : List ℤ) : Type 0 where

@@ -1,5 +1,7 @@
--- Definitions, a module a notion. Curves:
+-- Definitions, a module a notion. What has no field of its own:
+pub mod First
 pub mod Sums
+-- Curves:
 pub mod Ends
 pub mod CurveList
 pub mod Domain

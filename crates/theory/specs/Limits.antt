@@ -1,9 +1,12 @@
--- Limits of the numbers of a curve.
-use Rattle.std.specs.Prelude.{ℕ, ◌^◌, ◌<◌, List, length}
+-- Limits of the numbers of curves and certificates.
+use Rattle.std.specs.Prelude.{ℕ, ◌^◌, ◌<◌, ℤ, pos, neg_ℤ, ◌≤ℤ◌, List, length}
 use Rattle.theory.specs.declared.ext.Ext.{Ext}
 use Rattle.theory.specs.Ends.{whole}
 use Rattle.theory.specs.CurveList.{item}
-use Rattle.theory.specs.Certificate.{IsWithin}
+
+-- the magnitude is at most this
+abbrev pub IsWithin : ℕ → ℤ → Type 0
+IsWithin most z = (neg_ℤ (pos most) ≤ℤ z) × (z ≤ℤ pos most)
 
 -- the greatest magnitude of a point and of a slope
 abbrev pub number_most : ℕ
@@ -16,6 +19,14 @@ base_most = 10 ^ 24
 -- of a flow or tension that a curve is read at
 abbrev pub arg_most : ℕ
 arg_most = 2 ^ 62
+
+-- of a flow or potential of a certificate
+abbrev pub flow_most : ℕ
+flow_most = 10 ^ 15
+
+-- of a cost, value, capacity or span of a certificate
+abbrev pub sum_most : ℕ
+sum_most = 10 ^ 30
 
 -- the finite items are within the limit
 abbrev pub AreWithin : ℕ → List Ext → Type 0

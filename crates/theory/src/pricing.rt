@@ -7,9 +7,8 @@ ghost use Rattle.theory.specs.Domain.{raised, lowered, clip};
 ghost use Rattle.theory.specs.Cost.{cost, rise};
 ghost use Rattle.theory.specs.Span.{span_low, span_high};
 ghost use Rattle.theory.specs.OnCurve.{FitsPiece, IsOnCurve};
-ghost use Rattle.theory.specs.Limits.{AreWithin, number_most, base_most};
+ghost use Rattle.theory.specs.Limits.{AreWithin, number_most, base_most, IsWithin, flow_most};
 ghost use Rattle.theory.specs.PieceAt.{piece_of};
-ghost use Rattle.theory.specs.Certificate.{IsWithin, flow_most};
 
 use crate::Ext;
 

@@ -1,5 +1,5 @@
 use Rattle.std.proofs.Common.{◌∷◌, ◌++◌, lit<}
-use Rattle.theory.specs.Certificate.{flow_most}
+use Rattle.theory.specs.Limits.{flow_most}
 use Rattle.model_text.specs.Printed.{printed_number}
 use Rattle.cert_text.specs.Candidate.{IsLastNumber}
 use Rattle.cert_text.proofs.Digits.{kept}

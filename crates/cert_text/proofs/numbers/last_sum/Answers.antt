@@ -1,5 +1,5 @@
 use Rattle.std.proofs.Common.{◌∷◌, ◌++◌, lit<, lit≤}
-use Rattle.theory.specs.Certificate.{sum_most}
+use Rattle.theory.specs.Limits.{sum_most}
 use Rattle.model_text.specs.Printed.{printed_number}
 use Rattle.cert_text.specs.Candidate.{IsLastNumber}
 use Rattle.cert_text.proofs.Digits.{kept_wide}

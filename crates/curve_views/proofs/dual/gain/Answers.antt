@@ -2,8 +2,7 @@ use Rattle.std.proofs.Common.{◌≡◌, ◌+◌, ◌*◌, ◌^◌, refl, to_z, 
 use Rattle.std.specs.Prelude.{◌-ℤ◌, ◌*ℤ◌}
 use Rattle.std.specs.Int.{w128}
 use Rattle.std.proofs.lemmas.Int.{ints}
-use Rattle.theory.specs.Limits.{number_most}
-use Rattle.theory.specs.Certificate.{IsWithin, flow_most}
+use Rattle.theory.specs.Limits.{number_most, IsWithin, flow_most}
 use Rattle.theory.proofs.Bounds.{within_product, within_difference, within_more, within_fits128}
 use Rattle.curve_views.proofs.dual.gain.Goals as goal
 use Rattle.curve_views.proofs.dual.gain.Goals.{After-from-2}

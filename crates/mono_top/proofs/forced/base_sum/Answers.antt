@@ -3,8 +3,7 @@ use mir.Syntax.{w128}
 use Rattle.std.proofs.lemmas.Int.{ints}
 use Rattle.theory.specs.CurveList.{Listing}
 use Rattle.theory.specs.Network.{Network}
-use Rattle.theory.specs.Certificate.{IsWithin}
-use Rattle.theory.specs.Limits.{base_most}
+use Rattle.theory.specs.Limits.{base_most, IsWithin}
 use Rattle.mono_top.specs.Forced.{IsBaseSum}
 use Rattle.mono_top.proofs.ForcedFlow.{base_further}
 use Rattle.mono_top.proofs.forced.base_sum.Goals as goal

@@ -1,8 +1,7 @@
 use Rattle.std.proofs.Common.{◌+◌, ap, ◌∙◌, rules, arith, SFits, w64, to_z-of_z, [], ◌∷◌, ◌++◌}
 use Rattle.theory.specs.Ends.{whole}
 use Rattle.theory.specs.CurveList.{Listing, item}
-use Rattle.theory.specs.Certificate.{IsWithin}
-use Rattle.theory.specs.Limits.{number_most}
+use Rattle.theory.specs.Limits.{number_most, IsWithin}
 use Rattle.mono_top.specs.Forced.{IsForcedBelow}
 use Rattle.mono_top.proofs.ForcedFlow.{forced_further}
 use Rattle.mono_top.proofs.forced.points.Goals as goal

@@ -4,8 +4,7 @@ use Rattle.std.specs.Int.{w128}
 use Rattle.std.proofs.lemmas.Int.{ints}
 use Rattle.theory.specs.Ends.{whole}
 use Rattle.theory.specs.Domain.{clip}
-use Rattle.theory.specs.Limits.{number_most}
-use Rattle.theory.specs.Certificate.{IsWithin}
+use Rattle.theory.specs.Limits.{number_most, IsWithin}
 use Rattle.theory.proofs.Bounds.{within_product, within_fits128}
 use Rattle.theory.proofs.pricing.rise_of.Goals as goal
 use Rattle.theory.proofs.pricing.rise_of.Goals.{After-from-to}

@@ -1,8 +1,7 @@
 use Rattle.std.proofs.Common.{◌*◌, to_z-of_z, FitsSigned, arith, rules}
 use Rattle.std.specs.Int.{w64}
 use Rattle.theory.specs.Span.{rest_tension}
-use Rattle.theory.specs.Limits.{number_most}
-use Rattle.theory.specs.Certificate.{flow_most}
+use Rattle.theory.specs.Limits.{number_most, flow_most}
 use Rattle.theory.proofs.Bounds.{within_more, rest_tension-within}
 use Rattle.curve_views.proofs.FlowOf.{rest_tension-in_span}
 use Rattle.curve_views.proofs.conjugate.ConjugateListed.base.Goals as goal
