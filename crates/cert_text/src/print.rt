@@ -140,8 +140,8 @@ fn append_flow(out: &mut Vec<u8>, m: &Model, x: &[i64], j: u32) -> Result<(), Al
     Ok(())
 }
 
-/// `node NAME` of a ground arc, `arc NAME` of a model's arc.
-fn append_arc_name(out: &mut Vec<u8>, m: &Model, j: u32) -> Result<(), AllocError>
+/// Appends `node NAME` of a ground arc, `arc NAME` of a model's arc.
+pub fn append_arc_name(out: &mut Vec<u8>, m: &Model, j: u32) -> Result<(), AllocError>
     requires { j < length m.now.entries.nodes + length m.now.entries.arcs }
     ensures { OnOk result (out.new.items ≡ out.old.items ++ arc_name m.now.entries j) }
 {
@@ -190,8 +190,8 @@ pub(crate) fn append_node_line(out: &mut Vec<u8>, m: &Model, i: u32) -> Result<(
     Ok(())
 }
 
-/// A space and the printed name of a grounded node.
-fn append_node_name(out: &mut Vec<u8>, m: &Model, i: u32) -> Result<(), AllocError>
+/// Appends a space and the printed name of a grounded node.
+pub fn append_node_name(out: &mut Vec<u8>, m: &Model, i: u32) -> Result<(), AllocError>
     requires { i ≤ length m.now.entries.nodes }
     ensures { OnOk result (out.new.items ≡ out.old.items ++ 32 ∷ node_name m.now.entries i) }
 {

@@ -1,140 +1,32 @@
--- From an answer to what its status says. One file of a request is one step. Where the file was refused, the refusal is the
--- cause, and no file after it was reached. Where it was read whole, it is readable, so what is said of the files after it
--- is said of it and them.
-use Rattle.std.proofs.Common.{◌≡◌, ◌≢◌, ℕ, ◌≤◌, List, [], ◌∷◌, length, subst, refl, Option, Some, None, inl, inr, rules, arith, length-append}
+-- What each command answers to a model, and what the status of an answer says of the request: a new command is one more
+-- case in each lemma on requests.
+use Rattle.std.proofs.Common.{◌≡◌, ◌≢◌, ◌⊎◌, ℕ, List, [], ◌∷◌, subst, sym, ◌∙◌, refl, Option, Some, None, inl, inr, rules}
 use Rattle.std.specs.Option.{ForSome}
-use Rattle.mono_top.specs.Answer.{Outside, Answers, ReadsThen, RefusesFile}
-use Rattle.mono_top.specs.Causes.{IsFileWith, AsksSolvable, GoesThrough}
-use Rattle.mono_top.specs.Due.{IsDue, IsDueOfFiles}
-use Rattle.mono_top.specs.Request.{Request, solve, show_curve}
-use Rattle.mono_top.specs.Reading.{file_most}
-use Rattle.mono_top.specs.OfModel.{OfModel}
+use Rattle.theory.specs.Grounded.{Entries, grounded}
+use Rattle.theory.specs.Certificate.{Certificate, IsValid}
+use Rattle.theory.specs.Certificate.Certificate.{optimal, cut, circuit}
+use Rattle.model_text.specs.declared.fault.FaultWord.{FaultWord}
+use Rattle.model_text.specs.Model.{IsWellFormed, arc_names, place_of}
+use Rattle.model_text.proofs.TextLaws.{spelled_is_formed}
+use Rattle.cert_text.proofs.OneText.{bad_line_has_none}
+use Rattle.cert_text.proofs.OneCertificate.{one_certificate}
+use Rattle.cert_check.specs.Verdict.{IsVerdict}
+use Rattle.cert_check.specs.declared.judged.Judged.{Judged}
+use Rattle.cert_check.specs.declared.judged.Judged.TheVariants.{Accepted, NotConserved, OffCurve, OutOfCapacity, NotCircuit, Endless, WrongNumber, NotNegative}
+use Rattle.cert_check.proofs.Verdicts.{accepted_is_valid, valid_is_accepted}
+use Rattle.mono_top.specs.Answer.{Outside, Answers, ReadsThen}
+use Rattle.mono_top.specs.Causes.{AsksSolvable, AsksToCheck, GoesThrough}
+use Rattle.mono_top.specs.Checks.{ChecksText, IsValidText, status_by}
+use Rattle.mono_top.specs.Due.{IsDue}
+use Rattle.mono_top.specs.Request.{Request, solve, check, show_curve}
 use Rattle.mono_top.specs.ShowsCurve.{ShowsCurve, ShowsAt}
 use Rattle.mono_top.specs.Solves.{SolvesModel, AreAllPoints, IsCertified, status_of}
-use Rattle.model_text.specs.Model.{arc_names, place_of}
-use Rattle.theory.specs.Grounded.{Entries}
-use Rattle.theory.specs.Certificate.{Certificate}
-use Rattle.theory.specs.Certificate.Certificate.{optimal, cut, circuit}
-use Rattle.outside_io.specs.Files.{file_of}
-use Rattle.model_text.specs.declared.fault.FaultWord.{FaultWord}
-use Rattle.model_text.specs.ModelText.{Spells, IsFirstFault}
-use Rattle.model_text.proofs.TextLaws.{one_model, spelled_or_bad, one_fault}
-use Rattle.mono_top.specs.declared.lines.Place.{Place}
-use Rattle.mono_top.specs.declared.lines.Place.TheVariants.{First}
+use Rattle.mono_top.specs.declared.lines.Place.TheVariants.{Second}
 use Rattle.mono_top.specs.declared.status.Status.{Status}
-use Rattle.mono_top.specs.declared.status.Status.TheVariants.{Usage, ModelRefused, Missing, ReadFault, TooLong, UnknownArc, Unbuilt, NoMemory}
+use Rattle.mono_top.specs.declared.status.Status.TheVariants.{Done, Rejected, Usage, ModelRefused, Missing, ReadFault, TooLong, UnknownArc, Unbuilt, NoMemory}
+use Rattle.mono_top.proofs.ModelFileLemmas.{IsOwn, IsModelAnswer, own_answer, of_last, not_then, of_text, reached, due_of_model}
 
--- a command's own status: nothing was refused, and there was memory
-abbrev pub IsOwn : Status → Type 0
-IsOwn status = GoesThrough status × (status ≢ NoMemory)
-
--- it says nothing of files
-pub of_own : (outside : Outside) (status : Status) → IsOwn status → IsDueOfFiles [] outside status
-of_own outside status own = search rules
-
--- a file was refused
-of_refused : (place : Place) (name : List ℕ) (names : List (List ℕ)) (outside : Outside) (status : Status) (text : List ℕ) → RefusesFile place name outside status text → IsDueOfFiles (name ∷ names) outside status
-of_refused place name names outside status text refused = search (rules, length-append {A = ℕ})
-
--- one file, and then the files after it
-pub of_then : (place : Place) (name : List ℕ) (names : List (List ℕ)) (Next : List ℕ → Status → List ℕ → Type 0) (outside : Outside) (status : Status) (text : List ℕ) → ((bytes : List ℕ) → Next bytes status text → IsDueOfFiles names outside status) → ReadsThen place name Next outside status text → IsDueOfFiles (name ∷ names) outside status
-of_then place name names Next outside status text step (inl refused) = of_refused place name names outside status text refused
-of_then place name names Next outside status text step (inr (bytes, held, short, next)) =
-    let after : IsDueOfFiles names outside status = step bytes next in
-    record {
-      has_text = after.has_text;
-      missed = after.missed;
-      not_held = λ is files told. inr ((bytes, held files told, short), after.not_held is files told);
-      faulted = after.faulted;
-      too_long = λ is files told. inr ((bytes, held files told, short), after.too_long is files told);
-      too_long_always = λ files told reaches quiet. elim reaches [
-        | inl long ↦ grind (arith, long, held files told)
-        | inr further ↦ after.too_long_always files told further.1 quiet
-      ];
-      readable = λ files told readable. after.readable files told readable.1;
-    }
-
--- the words of a command that reads a file are not refused
-pub listed_then : (place : Place) (name : List ℕ) (Next : List ℕ → Status → List ℕ → Type 0) (outside : Outside) (status : Status) (text : List ℕ) → ((bytes : List ℕ) → Next bytes status text → status ≢ Usage) → ReadsThen place name Next outside status text → status ≢ Usage
-listed_then place name Next outside status text step reads = search rules
-
--- ---- the answer to a model file
-
--- what a command answers to a model is no refusal of the words, of a file, or of a text
-pub record IsModelAnswer (Next : Entries → Status → List ℕ → Type 0) : Type 0 where
-  pub own : (m : Entries) (status : Status) (text : List ℕ) → Next m status text → IsOwn status
-  pub reads : (m : Entries) (status : Status) (text : List ℕ) (line : ℕ) (word : FaultWord) → Next m status text → status ≢ ModelRefused line word
-
-own_of_model : (Next : Entries → Status → List ℕ → Type 0) → IsModelAnswer Next → (bytes : List ℕ) (status : Status) (text : List ℕ)
-    → OfModel Next bytes status text → IsOwn status
-own_of_model Next answer bytes status text (inl (line, word, fault, is, said)) = search rules
-own_of_model Next answer bytes status text (inr (m, spells, next)) = answer.own m status text next
-
-refused_of_model : (Next : Entries → Status → List ℕ → Type 0) → IsModelAnswer Next → (bytes : List ℕ) (status : Status) (text : List ℕ)
-    (line : ℕ) (word : FaultWord) → OfModel Next bytes status text → status ≡ ModelRefused line word → IsFirstFault bytes line word
-refused_of_model Next answer bytes status text line word (inl (at_line, its, fault, is, said)) refused =
-    let line_is : at_line ≡ line = cc in
-    let word_is : its ≡ word = cc in
-    rw (← line_is, ← word_is) fault
-refused_of_model Next answer bytes status text line word (inr (m, spells, next)) refused =
-    absurd (answer.reads m status text line word next refused)
-
-fault_is_refused : (Next : Entries → Status → List ℕ → Type 0) (bytes : List ℕ) (status : Status) (text : List ℕ) (line : ℕ) (word : FaultWord)
-    → OfModel Next bytes status text → IsFirstFault bytes line word → status ≡ ModelRefused line word
-fault_is_refused Next bytes status text line word (inl (at_line, its, fault, is, said)) first =
-    let same = one_fault bytes at_line line its word fault first in
-    let line_is = same.0 in
-    let word_is = same.1 in
-    cc
-fault_is_refused Next bytes status text line word (inr (m, spells, next)) first = absurd (spelled_or_bad bytes m line word spells first)
-
--- the answer to the model that the text spells
-next_of_model : (Next : Entries → Status → List ℕ → Type 0) (bytes : List ℕ) (status : Status) (text : List ℕ) (m : Entries)
-    → OfModel Next bytes status text → Spells bytes m → Next m status text
-next_of_model Next bytes status text m (inl (line, word, fault, is, said)) spells = absurd (spelled_or_bad bytes m line word spells fault)
-next_of_model Next bytes status text m (inr (n, its, next)) spells =
-    subst (λ (k : Entries). Next k status text) (one_model bytes n m its spells) next
-
--- a status that is the command's own is its answer to a model that the text spells
-pub record IsNextOf (Next : Entries → Status → List ℕ → Type 0) (bytes : List ℕ) (status : Status) (text : List ℕ) : Type 0 where
-  pub model : Entries
-  pub spells : Spells bytes model
-  pub next : Next model status text
-
-model_of_next : (Next : Entries → Status → List ℕ → Type 0) (bytes : List ℕ) (status : Status) (text : List ℕ)
-    → ((line : ℕ) (word : FaultWord) → status ≢ ModelRefused line word) → OfModel Next bytes status text → IsNextOf Next bytes status text
-model_of_next Next bytes status text reads (inl (line, word, fault, is, said)) = absurd (reads line word is)
-model_of_next Next bytes status text reads (inr (m, spells, next)) = record { model = m; spells = spells; next = next }
-
--- the file was read whole, and this is the answer to its text
-pub record IsOfText (model : List ℕ) (Next : List ℕ → Status → List ℕ → Type 0) (outside : Outside) (status : Status) (text : List ℕ) : Type 0 where
-  pub bytes : List ℕ
-  pub held : ForSome outside.holds (λ files. file_of files model ≡ Some bytes)
-  pub short : length bytes ≤ file_most
-  pub next : Next bytes status text
-
-of_text : (model : List ℕ) (Next : List ℕ → Status → List ℕ → Type 0) (outside : Outside) (status : Status) (text : List ℕ)
-    → ReadsThen First model Next outside status text → status ≢ Missing → status ≢ ReadFault → status ≢ TooLong → IsOfText model Next outside status text
-of_text model Next outside status text (inl (inl (is, line, missed, not_held))) found read in_length = absurd (found is)
-of_text model Next outside status text (inl (inr (inl (is, line, faulted)))) found read in_length = absurd (read is)
-of_text model Next outside status text (inl (inr (inr (is, line, long)))) found read in_length = absurd (in_length is)
-of_text model Next outside status text (inr (bytes, held, short, next)) found read in_length =
-    record { bytes = bytes; held = held; short = short; next = next }
-
--- a readable file is read whole, but for a fault
-reached : (model : List ℕ) (Next : List ℕ → Status → List ℕ → Type 0) (outside : Outside) (status : Status) (text : List ℕ)
-    → ReadsThen First model Next outside status text → status ≢ ReadFault
-    → ForSome outside.holds (λ files. (bytes : List ℕ) → file_of files model ≡ Some bytes → length bytes ≤ file_most → Next bytes status text)
-reached model Next outside status text (inl (inl (is, line, missed, not_held))) read files told bytes held short =
-    let none = not_held files told in cc
-reached model Next outside status text (inl (inr (inl (is, line, faulted)))) read files told bytes held short = absurd (read is)
-reached model Next outside status text (inl (inr (inr (is, line, long)))) read files told bytes held short =
-    let past = long files told in grind (arith, length-append {A = ℕ}, past, held)
-reached model Next outside status text (inr (whole, at_hand, in_length, next)) read files told bytes held short =
-    let same : whole ≡ bytes = let first = at_hand files told in cc in
-    subst (λ (b : List ℕ). Next b status text) same next
-
--- ---- what each command answers to a model
+-- ---- `solve`
 
 own_kind : (c : Certificate) (status : Status) → status ≡ status_of c → IsOwn status
 own_kind (optimal x u cost value) status is = search rules
@@ -150,11 +42,12 @@ kind_reads (circuit x walk span) status line word is refused = cc
 pub record IsSolved (status : Status) : Type 0 where
   pub built : status ≢ Unbuilt
   pub known : status ≢ UnknownArc
+  pub accepted : status ≢ Rejected
 
 kind_solved : (c : Certificate) (status : Status) → status ≡ status_of c → IsSolved status
-kind_solved (optimal x u cost value) status is = record { built = λ e. cc; known = λ e. cc }
-kind_solved (cut side capacity) status is = record { built = λ e. cc; known = λ e. cc }
-kind_solved (circuit x walk span) status is = record { built = λ e. cc; known = λ e. cc }
+kind_solved (optimal x u cost value) status is = record { built = λ e. cc; known = λ e. cc; accepted = λ e. cc }
+kind_solved (cut side capacity) status is = record { built = λ e. cc; known = λ e. cc; accepted = λ e. cc }
+kind_solved (circuit x walk span) status is = record { built = λ e. cc; known = λ e. cc; accepted = λ e. cc }
 
 solves_own : (m : Entries) (status : Status) (text : List ℕ) → SolvesModel m status text → IsOwn status
 solves_own m status text (inl (points, certified)) = own_kind certified.certificate status certified.kind
@@ -165,8 +58,8 @@ solves_reads m status text line word (inl (points, certified)) refused =
     kind_reads certified.certificate status line word certified.kind refused
 solves_reads m status text line word (inr (beyond, is, said)) refused = cc
 
-solves_answer : IsModelAnswer SolvesModel
-solves_answer = record { own = solves_own; reads = solves_reads }
+solves_answer : (outside : Outside) → IsModelAnswer [] outside SolvesModel
+solves_answer outside = own_answer outside SolvesModel solves_own solves_reads
 
 solves_beyond : (m : Entries) (status : Status) (text : List ℕ) → SolvesModel m status text → status ≡ Unbuilt → ¬ AreAllPoints m
 solves_beyond m status text (inl (points, certified)) unbuilt =
@@ -182,10 +75,89 @@ solves_known m status text (inl (points, certified)) unknown =
     (kind_solved certified.certificate status certified.kind).known unknown
 solves_known m status text (inr (beyond, is, said)) unknown = cc
 
+solves_accepted : (m : Entries) (status : Status) (text : List ℕ) → SolvesModel m status text → status ≢ Rejected
+solves_accepted m status text (inl (points, certified)) rejected =
+    (kind_solved certified.certificate status certified.kind).accepted rejected
+solves_accepted m status text (inr (beyond, is, said)) rejected = cc
+
 -- a model of single points is certified
 points_certified : (m : Entries) (status : Status) (text : List ℕ) → SolvesModel m status text → AreAllPoints m → IsCertified m status text
 points_certified m status text (inl (all, certified)) points = certified
 points_certified m status text (inr (far, is, said)) points = absurd (far points)
+
+-- ---- `check`
+
+-- the status says whether the certificate was accepted
+by_verdict : (verdict : Judged) (status : Status) → status ≡ status_by verdict
+    → (status ≡ Done) × (verdict ≡ Accepted) ⊎ (status ≡ Rejected) × (verdict ≢ Accepted)
+by_verdict Accepted status is = inl (is, refl)
+by_verdict (NotConserved node) status is = inr (is, λ e. cc)
+by_verdict (OffCurve arc) status is = inr (is, λ e. cc)
+by_verdict (OutOfCapacity arc) status is = inr (is, λ e. cc)
+by_verdict (NotCircuit number) status is = inr (is, λ e. cc)
+by_verdict (Endless arc) status is = inr (is, λ e. cc)
+by_verdict (WrongNumber stated right) status is = inr (is, λ e. cc)
+by_verdict NotNegative status is = inr (is, λ e. cc)
+
+-- what a text that was checked is: valid and done, or not valid and rejected
+abbrev pub IsJudged : Entries → List ℕ → Status → Type 0
+IsJudged m bytes status = (status ≡ Done) × IsValidText m bytes ⊎ (status ≡ Rejected) × (¬ IsValidText m bytes)
+
+pub judged : (m : Entries) (bytes : List ℕ) (status : Status) (text : List ℕ) → IsWellFormed m → ChecksText m bytes status text → IsJudged m bytes status
+judged m bytes status text formed (inl (line, bad, is, said)) =
+    inr (is, λ valid. bad_line_has_none m bytes line valid.certificate bad valid.spelled)
+judged m bytes status text formed (inr (c, spelled, (verdict, judges, is, said))) =
+    elim (by_verdict verdict status is) [
+      | inl (done, accepted) ↦
+          let judged_so = subst (λ (v : Judged). IsVerdict (grounded m) c v) accepted judges in
+          inl (done, record { certificate = c; spelled = spelled; valid = accepted_is_valid (grounded m) c spelled.fits judged_so })
+      | inr (rejected, refused) ↦ inr (rejected, λ valid.
+          let same = one_certificate m bytes valid.certificate c formed valid.spelled spelled in
+          refused (valid_is_accepted (grounded m) c verdict judges (subst (λ (d : Certificate). IsValid (grounded m) d) same valid.valid)))
+    ]
+
+checks_ends : (m : Entries) (bytes : List ℕ) (status : Status) (text : List ℕ) → ChecksText m bytes status text → (status ≡ Done) ⊎ (status ≡ Rejected)
+checks_ends m bytes status text (inl (line, bad, is, said)) = inr is
+checks_ends m bytes status text (inr (c, spelled, (verdict, judges, is, said))) =
+    elim (by_verdict verdict status is) [ | inl (done, accepted) ↦ inl done | inr (rejected, refused) ↦ inr rejected ]
+
+ends_own : (status : Status) → (status ≡ Done) ⊎ (status ≡ Rejected) → IsOwn status
+ends_own status (inl is) = search rules
+ends_own status (inr is) = search rules
+
+ends_not : (status other : Status) → other ≢ Done → other ≢ Rejected → (status ≡ Done) ⊎ (status ≡ Rejected) → status ≢ other
+ends_not status other not_done not_rejected (inl is) same = not_done (sym same ∙ is)
+ends_not status other not_done not_rejected (inr is) same = not_rejected (sym same ∙ is)
+
+-- what is read and answered after the model
+abbrev pub ChecksFile : List ℕ → Outside → Entries → Status → List ℕ → Type 0
+ChecksFile certificate outside m status text = ReadsThen Second certificate (ChecksText m) outside status text
+
+checks_not : (other : Status) (certificate : List ℕ) (outside : Outside) (m : Entries) (status : Status) (text : List ℕ)
+    → other ≢ Missing → other ≢ ReadFault → other ≢ TooLong → other ≢ Done → other ≢ Rejected
+    → ChecksFile certificate outside m status text → status ≢ other
+checks_not other certificate outside m status text held read short not_done not_rejected checks =
+    not_then other Second certificate (ChecksText m) outside status text held read short
+    (λ bytes next. ends_not status other not_done not_rejected (checks_ends m bytes status text next)) checks
+
+check_answer : (certificate : List ℕ) (outside : Outside) → IsModelAnswer (certificate ∷ []) outside (ChecksFile certificate outside)
+check_answer certificate outside = record {
+  listed = λ m status text next. checks_not Usage certificate outside m status text (λ e. cc) (λ e. cc) (λ e. cc) (λ e. cc) (λ e. cc) next;
+  reads = λ m status text line word next.
+      checks_not (ModelRefused line word) certificate outside m status text (λ e. cc) (λ e. cc) (λ e. cc) (λ e. cc) (λ e. cc) next;
+  of_files = λ m status text next.
+      of_last Second certificate (ChecksText m) outside status text (λ bytes its. ends_own status (checks_ends m bytes status text its)) next;
+}
+
+invalid_is_rejected : (m : Entries) (bytes : List ℕ) (status : Status) → IsJudged m bytes status → ¬ IsValidText m bytes → status ≡ Rejected
+invalid_is_rejected m bytes status (inl (done, valid)) invalid = absurd (invalid valid)
+invalid_is_rejected m bytes status (inr (rejected, refused)) invalid = rejected
+
+rejected_is_invalid : (m : Entries) (bytes : List ℕ) (status : Status) → IsJudged m bytes status → status ≡ Rejected → ¬ IsValidText m bytes
+rejected_is_invalid m bytes status (inl (done, valid)) rejected = absurd cc
+rejected_is_invalid m bytes status (inr (is, refused)) rejected = refused
+
+-- ---- `curve`
 
 shows_own : (m : Entries) (at : Option ℕ) (status : Status) (text : List ℕ) → ShowsAt m at status text → IsOwn status
 shows_own m (Some j) status text shows = search rules
@@ -195,15 +167,18 @@ shows_reads : (m : Entries) (at : Option ℕ) (status : Status) (text : List ℕ
 shows_reads m (Some j) status text line word shows refused = let is = shows.0 in cc
 shows_reads m None status text line word shows refused = let is = shows.0 in cc
 
-shows_answer : (arc : List ℕ) → IsModelAnswer (ShowsCurve arc)
-shows_answer arc = record {
-  own = λ m status text shows. shows_own m (place_of (arc_names m) arc) status text shows;
-  reads = λ m status text line word shows. shows_reads m (place_of (arc_names m) arc) status text line word shows;
-}
+shows_answer : (arc : List ℕ) (outside : Outside) → IsModelAnswer [] outside (ShowsCurve arc)
+shows_answer arc outside = own_answer outside (ShowsCurve arc)
+    (λ m status text shows. shows_own m (place_of (arc_names m) arc) status text shows)
+    (λ m status text line word shows. shows_reads m (place_of (arc_names m) arc) status text line word shows)
 
 shows_built : (m : Entries) (at : Option ℕ) (status : Status) (text : List ℕ) → ShowsAt m at status text → status ≢ Unbuilt
 shows_built m (Some j) status text shows unbuilt = let is = shows.0 in cc
 shows_built m None status text shows unbuilt = let is = shows.0 in cc
+
+shows_accepted : (m : Entries) (at : Option ℕ) (status : Status) (text : List ℕ) → ShowsAt m at status text → status ≢ Rejected
+shows_accepted m (Some j) status text shows rejected = let is = shows.0 in cc
+shows_accepted m None status text shows rejected = let is = shows.0 in cc
 
 shows_unknown : (m : Entries) (at : Option ℕ) (status : Status) (text : List ℕ) → ShowsAt m at status text → status ≡ UnknownArc → at ≡ None
 shows_unknown m (Some j) status text shows unknown = let is = shows.0 in absurd cc
@@ -213,55 +188,23 @@ unknown_shows : (m : Entries) (at : Option ℕ) (status : Status) (text : List �
 unknown_shows m (Some j) status text shows none = absurd cc
 unknown_shows m None status text shows none = shows.0
 
--- ---- a command on a model file
-
--- what its status says, but for the statuses that only this command gives
-pub record IsDueOfModel (model : List ℕ) (Next : Entries → Status → List ℕ → Type 0) (outside : Outside) (status : Status) (text : List ℕ) : Type 0 where
-  pub listed : status ≢ Usage
-  pub of_files : IsDueOfFiles (model ∷ []) outside status
-  pub refused : (line : ℕ) (word : FaultWord) → status ≡ ModelRefused line word
-      → ForSome outside.holds (λ files. IsFileWith files model (λ bytes. IsFirstFault bytes line word))
-  pub refused_always : ForSome outside.holds (λ files. (line : ℕ) (word : FaultWord) → IsFileWith files model (λ bytes. IsFirstFault bytes line word)
-      → ¬ outside.faulted → status ≡ ModelRefused line word)
-  pub next : IsOwn status → ((line : ℕ) (word : FaultWord) → status ≢ ModelRefused line word)
-      → ForSome outside.holds (λ files. IsFileWith files model (λ bytes. IsNextOf Next bytes status text))
-  pub next_always : ForSome outside.holds (λ files. (m : Entries) → IsFileWith files model (λ bytes. Spells bytes m) → status ≢ ReadFault → Next m status text)
-  pub quiet : ¬ outside.faulted → status ≢ ReadFault
-
-due_of_model : (model : List ℕ) (Next : Entries → Status → List ℕ → Type 0) → IsModelAnswer Next → (outside : Outside) (status : Status) (text : List ℕ)
-    → ReadsThen First model (OfModel Next) outside status text → IsDueOfModel model Next outside status text
-due_of_model model Next answer outside status text reads =
-    let files_due : IsDueOfFiles (model ∷ []) outside status = of_then First model [] (OfModel Next) outside status text
-    (λ bytes next. of_own outside status (own_of_model Next answer bytes status text next)) reads in
-    record {
-      listed = listed_then First model (OfModel Next) outside status text (λ bytes next. (own_of_model Next answer bytes status text next).0.listed) reads;
-      of_files = files_due;
-      refused = λ line word is files told.
-          let of = of_text model (OfModel Next) outside status text reads (λ e. cc) (λ e. cc) (λ e. cc) in
-          (of.bytes, of.held files told, of.short, refused_of_model Next answer of.bytes status text line word of.next is);
-      refused_always = λ files told line word asks quiet.
-          fault_is_refused Next asks.0 status text line word
-          (reached model (OfModel Next) outside status text reads (λ e. quiet (files_due.faulted e)) files told asks.0 asks.1 asks.2) asks.3;
-      next = λ own reads_it files told.
-          let of = of_text model (OfModel Next) outside status text reads own.0.held own.0.read own.0.short in
-          (of.bytes, of.held files told, of.short, model_of_next Next of.bytes status text reads_it of.next);
-      next_always = λ files told m asks read.
-          next_of_model Next asks.0 status text m
-          (reached model (OfModel Next) outside status text reads read files told asks.0 asks.1 asks.2) asks.3;
-      quiet = λ quiet e. quiet (files_due.faulted e);
-    }
+-- ---- requests
 
 -- what the status of an answer says; a new command is one more case
 pub due : (request : Option Request) (outside : Outside) (status : Status) (text : List ℕ) → Answers request outside status text → IsDue request outside status
 due None outside status text refused = search rules
 due (Some (solve model)) outside status text answers =
-    let all = due_of_model model SolvesModel solves_answer outside status text answers in
+    let all = due_of_model model [] SolvesModel outside status text (solves_answer outside) answers in
     record {
       usage = λ is. absurd (all.listed is);
       usage_always = λ none. cc;
       of_files = all.of_files;
       refused = all.refused;
       refused_always = all.refused_always;
+      rejected = λ is files told.
+          let of = all.next (search rules) (λ line word e. cc) files told in
+          absurd (solves_accepted of.3.model status text of.3.next is);
+      rejected_always = λ files told asks quiet. absurd asks.2;
       unbuilt = λ is files told.
           let of = all.next (search rules) (λ line word e. cc) files told in
           (of.0, of.1, of.2, (of.3.model, of.3.spells, solves_beyond of.3.model status text of.3.next is));
@@ -272,14 +215,49 @@ due (Some (solve model)) outside status text answers =
           absurd (solves_known of.3.model status text of.3.next is);
       unknown_arc_always = λ files told asks quiet. absurd asks;
     }
-due (Some (show_curve model arc)) outside status text answers =
-    let all = due_of_model model (ShowsCurve arc) (shows_answer arc) outside status text answers in
+due (Some (check model certificate)) outside status text answers =
+    let all = due_of_model model (certificate ∷ []) (ChecksFile certificate outside) outside status text (check_answer certificate outside) answers in
     record {
       usage = λ is. absurd (all.listed is);
       usage_always = λ none. cc;
       of_files = all.of_files;
       refused = all.refused;
       refused_always = all.refused_always;
+      rejected = λ is files told.
+          let of = all.next (search rules) (λ line word e. cc) files told in
+          let m = of.3.model in
+          let second = of_text Second certificate (ChecksText m) outside status text of.3.next (λ e. cc) (λ e. cc) (λ e. cc) in
+          let told_so = judged m second.bytes status text (spelled_is_formed of.0 m of.3.spells) second.next in
+          (m, second.bytes, ((of.0, of.1, of.2, of.3.spells), (second.bytes, second.held files told, second.short, refl)),
+          rejected_is_invalid m second.bytes status told_so is);
+      rejected_always = λ files told asks quiet.
+          let first = asks.2.0 in
+          let second = asks.2.1 in
+          let next = all.next_always files told asks.0 first (all.quiet quiet) in
+          let checks = reached Second certificate (ChecksText asks.0) outside status text next (all.quiet quiet) files told second.0 second.1 second.2 in
+          let told_so = judged asks.0 second.0 status text (spelled_is_formed first.0 asks.0 first.3) checks in
+          invalid_is_rejected asks.0 second.0 status told_so (λ valid. asks.3 (subst (λ (b : List ℕ). IsValidText asks.0 b) second.3 valid));
+      unbuilt = λ is files told.
+          let of = all.next (search rules) (λ line word e. cc) files told in
+          absurd (checks_not Unbuilt certificate outside of.3.model status text (λ e. cc) (λ e. cc) (λ e. cc) (λ e. cc) (λ e. cc) of.3.next is);
+      unbuilt_always = λ files told asks quiet. absurd asks;
+      unknown_arc = λ is files told.
+          let of = all.next (search rules) (λ line word e. cc) files told in
+          absurd (checks_not UnknownArc certificate outside of.3.model status text (λ e. cc) (λ e. cc) (λ e. cc) (λ e. cc) (λ e. cc) of.3.next is);
+      unknown_arc_always = λ files told asks quiet. absurd asks;
+    }
+due (Some (show_curve model arc)) outside status text answers =
+    let all = due_of_model model [] (ShowsCurve arc) outside status text (shows_answer arc outside) answers in
+    record {
+      usage = λ is. absurd (all.listed is);
+      usage_always = λ none. cc;
+      of_files = all.of_files;
+      refused = all.refused;
+      refused_always = all.refused_always;
+      rejected = λ is files told.
+          let of = all.next (search rules) (λ line word e. cc) files told in
+          absurd (shows_accepted of.3.model (place_of (arc_names of.3.model) arc) status text of.3.next is);
+      rejected_always = λ files told asks quiet. absurd asks.2;
       unbuilt = λ is files told.
           let of = all.next (search rules) (λ line word e. cc) files told in
           absurd (shows_built of.3.model (place_of (arc_names of.3.model) arc) status text of.3.next is);
@@ -297,6 +275,22 @@ pub certified : (request : Option Request) (outside : Outside) (status : Status)
     → status ≢ ReadFault → ForSome outside.holds (λ files. (m : Entries) → AsksSolvable files m request → IsCertified m status text)
 certified None outside status text answers read files told m asks = absurd asks
 certified (Some (solve model)) outside status text answers read files told m asks =
-    let all = due_of_model model SolvesModel solves_answer outside status text answers in
+    let all = due_of_model model [] SolvesModel outside status text (solves_answer outside) answers in
     points_certified m status text (all.next_always files told m (asks.0, asks.1, asks.2, asks.3.0) read) asks.3.1
+certified (Some (check model certificate)) outside status text answers read files told m asks = absurd asks
 certified (Some (show_curve model arc)) outside status text answers read files told m asks = absurd asks
+
+-- the text of a request to check is judged, where no fault kept a file from being read
+pub checked : (request : Option Request) (outside : Outside) (status : Status) (text : List ℕ) → Answers request outside status text
+    → status ≢ ReadFault → ForSome outside.holds (λ files. (m : Entries) (bytes : List ℕ) → AsksToCheck files m bytes request
+    → IsWellFormed m × IsJudged m bytes status)
+checked None outside status text answers read files told m bytes asks = absurd asks
+checked (Some (solve model)) outside status text answers read files told m bytes asks = absurd asks
+checked (Some (check model certificate)) outside status text answers read files told m bytes asks =
+    let all = due_of_model model (certificate ∷ []) (ChecksFile certificate outside) outside status text (check_answer certificate outside) answers in
+    let first = asks.0 in
+    let second = asks.1 in
+    let formed = spelled_is_formed first.0 m first.3 in
+    let checks = reached Second certificate (ChecksText m) outside status text (all.next_always files told m first read) read files told second.0 second.1 second.2 in
+    (formed, subst (λ (b : List ℕ). IsJudged m b status) second.3 (judged m second.0 status text formed checks))
+checked (Some (show_curve model arc)) outside status text answers read files told m bytes asks = absurd asks

@@ -1,3 +1,5 @@
+pub mod FetchLemmas
+pub mod ModelFileLemmas
 pub mod DueLemmas
 pub mod HeadlineLemmas
 pub mod ForcedFlow

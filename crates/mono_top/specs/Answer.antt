@@ -6,12 +6,13 @@ use Rattle.std.specs.Option.{ForSome}
 use Rattle.outside_io.specs.Files.{Files, file_of}
 use Rattle.mono_top.specs.Lines.{usage_line, missing_line, read_fault_line, too_long_line}
 use Rattle.mono_top.specs.Reading.{file_most, IsReadPastMost}
-use Rattle.mono_top.specs.Request.{Request, solve, show_curve}
+use Rattle.mono_top.specs.Request.{Request, solve, check, show_curve}
 use Rattle.mono_top.specs.OfModel.{OfModel}
+use Rattle.mono_top.specs.Checks.{ChecksText}
 use Rattle.mono_top.specs.ShowsCurve.{ShowsCurve}
 use Rattle.mono_top.specs.Solves.{SolvesModel}
 use Rattle.mono_top.specs.declared.lines.Place.{Place}
-use Rattle.mono_top.specs.declared.lines.Place.TheVariants.{First}
+use Rattle.mono_top.specs.declared.lines.Place.TheVariants.{First, Second}
 use Rattle.mono_top.specs.declared.status.Status.{Status}
 use Rattle.mono_top.specs.declared.status.Status.TheVariants.{Usage, Missing, ReadFault, TooLong}
 
@@ -43,4 +44,6 @@ ReadsThen place name Next outside status text =
 abbrev pub Answers : Option Request → Outside → Status → List ℕ → Type 0
 Answers None outside status text = (status ≡ Usage) × (text ≡ usage_line)
 Answers (Some (solve model)) outside status text = ReadsThen First model (OfModel SolvesModel) outside status text
+Answers (Some (check model certificate)) outside status text =
+    ReadsThen First model (OfModel (λ m. ReadsThen Second certificate (ChecksText m) outside)) outside status text
 Answers (Some (show_curve model arc)) outside status text = ReadsThen First model (OfModel (ShowsCurve arc)) outside status text

@@ -1,42 +1,55 @@
 -- When each status comes, by the request and the files that the source holds.
-use Rattle.std.specs.Prelude.{◌≡◌, ◌≢◌, ℕ, ◌≤◌, List, length, Option, Some, None, IsSome}
-use Rattle.outside_io.specs.Files.{Files, file_of}
-use Rattle.mono_top.specs.Reading.{file_most, AllReadable}
-use Rattle.mono_top.specs.Request.{Request, solve, show_curve, files_of}
+use Rattle.std.specs.Prelude.{◌≡◌, ◌≢◌, ℕ, List, Option, Some, None, IsSome}
+use Rattle.outside_io.specs.Files.{Files}
+use Rattle.mono_top.specs.Reading.{IsFileWith, AllReadable}
+use Rattle.mono_top.specs.Request.{Request, solve, check, show_curve, files_of}
 use Rattle.theory.specs.Grounded.{Entries}
 use Rattle.model_text.specs.declared.fault.FaultWord.{FaultWord}
 use Rattle.model_text.specs.Model.{place_of, arc_names}
 use Rattle.model_text.specs.ModelText.{Spells, IsFirstFault}
 use Rattle.mono_top.specs.Solves.{AreAllPoints}
+use Rattle.mono_top.specs.Checks.{IsValidText}
 use Rattle.mono_top.specs.declared.status.Status.{Status}
 use Rattle.mono_top.specs.declared.status.Status.TheVariants.{Usage, Missing, ReadFault, WriteFault, TooLong}
-
--- the file is readable, and P holds of its text
-abbrev pub IsFileWith : Files → List ℕ → (List ℕ → Type 0) → Type 0
-IsFileWith files name P = (text : List ℕ) × (file_of files name ≡ Some text) × (length text ≤ file_most) × P text
 
 -- a command asked for a model file: this first fault is its text's
 abbrev pub AsksFaulty : Files → ℕ → FaultWord → Option Request → Type 0
 AsksFaulty files line word None = ⊥
 AsksFaulty files line word (Some (solve model)) = IsFileWith files model (λ text. IsFirstFault text line word)
+AsksFaulty files line word (Some (check model certificate)) = IsFileWith files model (λ text. IsFirstFault text line word)
 AsksFaulty files line word (Some (show_curve model arc)) = IsFileWith files model (λ text. IsFirstFault text line word)
 
 -- `solve` was asked for: the text spells this model, and every curve of it is a single point
 abbrev pub AsksSolvable : Files → Entries → Option Request → Type 0
 AsksSolvable files m None = ⊥
 AsksSolvable files m (Some (solve model)) = IsFileWith files model (λ text. Spells text m × AreAllPoints m)
+AsksSolvable files m (Some (check model certificate)) = ⊥
 AsksSolvable files m (Some (show_curve model arc)) = ⊥
 
 -- `solve` was asked for: the text spells a model that has no answer yet
 abbrev pub AsksUnbuilt : Files → Option Request → Type 0
 AsksUnbuilt files None = ⊥
 AsksUnbuilt files (Some (solve model)) = IsFileWith files model (λ text. (m : Entries) × Spells text m × ¬ AreAllPoints m)
+AsksUnbuilt files (Some (check model certificate)) = ⊥
 AsksUnbuilt files (Some (show_curve model arc)) = ⊥
+
+-- `check` was asked for: the first file's text spells this model, and the second file has this text, whatever it is
+abbrev pub AsksToCheck : Files → Entries → List ℕ → Option Request → Type 0
+AsksToCheck files m text None = ⊥
+AsksToCheck files m text (Some (solve model)) = ⊥
+AsksToCheck files m text (Some (check model certificate)) =
+    IsFileWith files model (λ bytes. Spells bytes m) × IsFileWith files certificate (λ bytes. bytes ≡ text)
+AsksToCheck files m text (Some (show_curve model arc)) = ⊥
+
+-- and that text is not one of a valid certificate
+abbrev pub AsksInvalid : Files → Option Request → Type 0
+AsksInvalid files request = (m : Entries) × (text : List ℕ) × AsksToCheck files m text request × ¬ IsValidText m text
 
 -- `curve` was asked for: the text spells a model without an arc of that name
 abbrev pub AsksUnknownArc : Files → Option Request → Type 0
 AsksUnknownArc files None = ⊥
 AsksUnknownArc files (Some (solve model)) = ⊥
+AsksUnknownArc files (Some (check model certificate)) = ⊥
 AsksUnknownArc files (Some (show_curve model arc)) = IsFileWith files model (λ text. (m : Entries) × Spells text m × (place_of (arc_names m) arc ≡ None))
 
 -- a command was asked for, and its files are readable

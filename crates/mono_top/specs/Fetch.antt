@@ -1,14 +1,19 @@
--- What fetching one file of a request came to.
+-- What fetching one file of a request came to, and the model of its first file.
 use Rattle.std.specs.Prelude.{◌≡◌, ℕ, ◌≤◌, List, length, Result, Ok, Err, Some}
 use Rattle.std.specs.Option.{ForSome}
 use Rattle.std.specs.declared.alloc.AllocError.{AllocError}
 use Rattle.outside_io.specs.Files.{file_of}
 use Rattle.outside_io.specs.Whole.{IsHeld}
-use Rattle.mono_top.specs.Answer.{Outside, RefusesFile}
+use Rattle.model_text.specs.ModelText.{Spells}
+use Rattle.mono_top.specs.Answer.{Outside, RefusesFile, ReadsThen}
+use Rattle.mono_top.specs.OfModel.{OfModel}
 use Rattle.mono_top.specs.Reading.{file_most}
 use Rattle.mono_top.specs.declared.fetch.Fetched.{Fetched}
 use Rattle.mono_top.specs.declared.fetch.Fetched.TheVariants.{Bytes, Refused}
+use Rattle.mono_top.specs.declared.fetch.FetchedModel.{FetchedModel}
+use Rattle.mono_top.specs.declared.fetch.FetchedModel.TheVariants.{Model, Refused as RefusedModel}
 use Rattle.mono_top.specs.declared.lines.Place.{Place}
+use Rattle.mono_top.specs.declared.lines.Place.TheVariants.{First}
 use Rattle.mono_top.specs.declared.reply.Text.{Text}
 use Rattle.mono_top.specs.declared.reply.Text.TheVariants.{Fixed, Made}
 
@@ -22,3 +27,11 @@ abbrev pub Fetches : Place → List ℕ → Outside → Result Fetched AllocErro
 Fetches place name outside (Ok (Bytes bytes)) = ForSome outside.holds (λ files. file_of files name ≡ Some bytes) × (length bytes ≤ file_most)
 Fetches place name outside (Ok (Refused reply)) = RefusesFile place name outside reply.status (text_of reply.text)
 Fetches place name outside (Err error) = ForSome outside.holds (λ files. IsHeld files name)
+
+-- the model that the first file spells, or the line that refuses the file or its text
+abbrev pub FetchesModel : List ℕ → Outside → Result FetchedModel AllocError → Type 0
+FetchesModel name outside (Ok (Model model)) =
+    (bytes : List ℕ) × ForSome outside.holds (λ files. file_of files name ≡ Some bytes) × (length bytes ≤ file_most) × Spells bytes model.entries
+FetchesModel name outside (Ok (RefusedModel reply)) =
+    ReadsThen First name (OfModel (λ m status text. ⊥)) outside reply.status (text_of reply.text)
+FetchesModel name outside (Err error) = ForSome outside.holds (λ files. IsHeld files name)

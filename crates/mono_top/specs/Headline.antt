@@ -1,4 +1,6 @@
--- What a call to `solve` concludes of a model: it writes the text of exactly one certificate, valid, of the one right kind.
+-- What calls conclude of a model.
+--
+-- A call to `solve` writes the text of exactly one certificate, valid, of the one right kind.
 -- What the certificate says is a claim over all fractions: an optimum, or that there is no feasible flow, or that no plan
 -- is bounded.
 use Rattle.std.specs.Prelude.{◌≡◌, ◌↔◌, ℕ, List, Option}
@@ -7,8 +9,9 @@ use Rattle.theory.specs.Best.{FlowIsRefused}
 use Rattle.theory.specs.CertificateLaws.{Says}
 use Rattle.outside_io.specs.Sink.{Grew}
 use Rattle.mono_top.specs.Solves.{IsCertified}
+use Rattle.mono_top.specs.Checks.{IsValidText}
 use Rattle.mono_top.specs.declared.status.Status.{Status}
-use Rattle.mono_top.specs.declared.status.Status.TheVariants.{Cut}
+use Rattle.mono_top.specs.declared.status.Status.TheVariants.{Done, Cut, Rejected}
 
 pub record Concludes (m : Entries) (status : Status) (old new : Option (List ℕ)) : Type 0 where
   pub text : List ℕ
@@ -16,3 +19,10 @@ pub record Concludes (m : Entries) (status : Status) (old new : Option (List ℕ
   pub written : Grew old new text
   pub says : Says (grounded m) certified.certificate
   pub flow_refused : (status ≡ Cut) ↔ FlowIsRefused (grounded m)
+
+-- What a call to `check` concludes of a model and a text: it is accepted exactly where it is the text of a valid
+-- certificate, and then what the certificate says is true.
+pub record ConcludesCheck (m : Entries) (text : List ℕ) (status : Status) : Type 0 where
+  pub accepted : (status ≡ Done) ↔ IsValidText m text
+  pub rejected : (status ≡ Rejected) ↔ (¬ IsValidText m text)
+  pub says : (valid : IsValidText m text) → Says (grounded m) valid.certificate

@@ -1,5 +1,6 @@
 pub mod Answer
 pub mod Causes
+pub mod Checks
 pub mod Commands
 pub mod Due
 pub mod Ending
@@ -14,3 +15,4 @@ pub mod Request
 pub mod ShowsCurve
 pub mod Solves
 pub mod Status
+pub mod VerdictLines

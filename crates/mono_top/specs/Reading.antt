@@ -1,7 +1,9 @@
 -- The files of a request, read one after the other.
 use Rattle.std.specs.Prelude.{◌≡◌, ◌⊎◌, ℕ, ◌+◌, ◌≤◌, List, [], ◌∷◌, ◌++◌, length, Option, Some, None, ⊤}
+use Rattle.theory.specs.Grounded.{Entries}
 use Rattle.outside_io.specs.Files.{Files, file_of}
 use Rattle.outside_io.specs.Whole.{IsHeld, IsTooLong}
+use Rattle.model_text.specs.ModelText.{Spells}
 
 -- the most bytes of a file
 abbrev pub file_most : ℕ
@@ -11,15 +13,23 @@ file_most = 4194304
 abbrev pub IsReadable : Files → List ℕ → Type 0
 IsReadable files name = (bytes : List ℕ) × (file_of files name ≡ Some bytes) × (length bytes ≤ file_most)
 
+-- the file is readable, and P holds of its text
+abbrev pub IsFileWith : Files → List ℕ → (List ℕ → Type 0) → Type 0
+IsFileWith files name P = (text : List ℕ) × (file_of files name ≡ Some text) × (length text ≤ file_most) × P text
+
+-- the file is readable, and its text spells a model
+abbrev pub IsModelFile : Files → List ℕ → Type 0
+IsModelFile files name = IsFileWith files name (λ text. (m : Entries) × Spells text m)
+
 -- `file_most + 1` bytes of the file were read, and `rest` is what follows them
 abbrev pub IsReadPastMost : Files → Option (List ℕ) → List ℕ → Type 0
 IsReadPastMost files rest name =
     (taken left : List ℕ) × (length taken ≡ file_most + 1) × (file_of files name ≡ Some (taken ++ left)) × (rest ≡ Some left)
 
--- P of a file that is reached: each file before it is readable
+-- P of a file that is reached: the file before it is one of a model
 abbrev pub Reaches : Files → (List ℕ → Type 0) → List (List ℕ) → Type 0
 Reaches files P [] = ⊥
-Reaches files P (name ∷ names) = P name ⊎ (IsReadable files name × Reaches files P names)
+Reaches files P (name ∷ names) = P name ⊎ (IsModelFile files name × Reaches files P names)
 
 abbrev pub ReachesMissing : Files → List (List ℕ) → Type 0
 ReachesMissing files names = Reaches files (λ name. file_of files name ≡ None) names

@@ -1,12 +1,13 @@
 -- The exit code of each status.
 use Rattle.std.specs.Prelude.{ℕ}
 use Rattle.mono_top.specs.declared.status.Status.{Status}
-use Rattle.mono_top.specs.declared.status.Status.TheVariants.{Done, Cut, Circuit, Usage, ModelRefused, Missing, ReadFault, WriteFault, NoMemory, TooLong, UnknownArc, Unbuilt}
+use Rattle.mono_top.specs.declared.status.Status.TheVariants.{Done, Cut, Circuit, Rejected, Usage, ModelRefused, Missing, ReadFault, WriteFault, NoMemory, TooLong, UnknownArc, Unbuilt}
 
 abbrev pub code_of : Status → ℕ
 code_of Done = 0
 code_of Cut = 1
 code_of Circuit = 2
+code_of Rejected = 3
 code_of Usage = 4
 code_of (ModelRefused line word) = 5
 code_of Missing = 6

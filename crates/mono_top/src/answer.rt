@@ -6,6 +6,7 @@ ghost use Rattle.mono_top.specs.Due.{IsDue};
 ghost use Rattle.mono_top.specs.Replies.{Replies};
 ghost use Rattle.mono_top.specs.Request.{asked};
 
+use crate::check::check;
 use crate::command::{Command, command_of};
 use crate::lines;
 use crate::reply::Reply;
@@ -31,6 +32,7 @@ pub(crate) fn reply_to<S: Shelf>(
 {
     match command_of(words) {
         Some(Command::Solve { model }) => Ok(solve(alloc, shelf, model)?),
+        Some(Command::Check { model, certificate }) => Ok(check(alloc, shelf, model, certificate)?),
         Some(Command::Curve { model, arc }) => Ok(show_curve(alloc, shelf, model, arc)?),
         None => Ok(Reply::refusal(Status::Usage, lines::usage())),
     }

@@ -1,12 +1,13 @@
-// A file of a command's words, read whole or refused.
+// A file of a command's words, read whole or refused; and the model that the first file spells.
 ghost use Rattle.std.specs.Prelude.{◌≡◌};
 ghost use Rattle.outside_io.specs.Counts.{Rose, Counts};
 ghost use Rattle.mono_top.specs.Answer.{outside_of};
-ghost use Rattle.mono_top.specs.Fetch.{Fetches};
+ghost use Rattle.mono_top.specs.Fetch.{Fetches, FetchesModel};
 
 use crate::lines::{self, Place};
 use crate::reply::Reply;
 use crate::status::Status;
+use model_text::{Model, ModelError, read_model};
 use outside_io::{ByteText, ReadAns, Shelf, read_file};
 use std::alloc::{AllocError, Global};
 
@@ -16,6 +17,12 @@ pub const FILE_MOST: usize = 4_194_304;
 #[derive(Drop)]
 pub(crate) enum Fetched {
     Bytes(ByteText),
+    Refused(Reply),
+}
+
+#[derive(Drop)]
+pub(crate) enum FetchedModel {
+    Model(Model),
     Refused(Reply),
 }
 
@@ -39,4 +46,29 @@ pub(crate) fn fetch<S: Shelf>(
         ReadAns::TooLong => Reply::refusal(Status::TooLong, lines::too_long(place)),
     };
     Ok(Fetched::Refused(reply))
+}
+
+/// The model that the first file spells.
+pub(crate) fn fetch_model<S: Shelf>(
+    alloc: Global,
+    shelf: &mut S,
+    name: &str,
+) -> Result<FetchedModel, AllocError>
+    ensures fetches { FetchesModel name.now (outside_of (S.holds shelf.old) (S.rest shelf.new)
+        (Rose (S.misses shelf.old) (S.misses shelf.new)) (Rose (S.faults shelf.old) (S.faults shelf.new))) result }
+    ensures holds { S.holds shelf.new ≡ S.holds shelf.old }
+    ensures misses { Counts (S.misses shelf.old) (S.misses shelf.new) }
+    ensures faults { Counts (S.faults shelf.old) (S.faults shelf.new) }
+{
+    let text = match fetch(alloc, shelf, Place::First, name)? {
+        Fetched::Bytes(text) => text,
+        Fetched::Refused(reply) => return Ok(FetchedModel::Refused(reply)),
+    };
+    match read_model(alloc, text.as_slice()) {
+        Ok(model) => Ok(FetchedModel::Model(model)),
+        Err(ModelError::Fault { line, word }) => {
+            Ok(FetchedModel::Refused(Reply::bad_line(alloc, line, word)?))
+        }
+        Err(ModelError::NoMemory) => Err(AllocError),
+    }
 }

@@ -2,6 +2,7 @@
 #![tactic(auto)]
 
 mod answer;
+mod check;
 mod command;
 mod fetch;
 mod forced;
@@ -11,6 +12,7 @@ mod show_curve;
 mod solve;
 mod status;
 mod top;
+mod verdict_line;
 
 pub use fetch::FILE_MOST;
 pub use status::Status;

@@ -1,21 +1,19 @@
 // The command `curve MODEL ARC`.
-ghost use Rattle.std.specs.Prelude.{◌≡◌, ◌≤◌, ◌<◌, ◌++◌, length, IfOk, OnOk, Some};
+ghost use Rattle.std.specs.Prelude.{◌≡◌, ◌++◌, IfOk, OnOk, Some};
 ghost use Rattle.outside_io.specs.Counts.{Rose, Counts};
 ghost use Rattle.model_text.specs.Model.{arc_at, arc_names, place_of};
 ghost use Rattle.mono_top.specs.Answer.{outside_of};
 ghost use Rattle.mono_top.specs.Fetch.{text_of};
-ghost use Rattle.mono_top.specs.OfModel.{OfModel};
-ghost use Rattle.mono_top.specs.Reading.{file_most};
 ghost use Rattle.mono_top.specs.Replies.{Replies};
 ghost use Rattle.mono_top.specs.Request.{show_curve as curve_request};
 ghost use Rattle.mono_top.specs.ShowsCurve.{ShowsCurve, curve_text, listing_line};
 
-use crate::fetch::{Fetched, fetch};
-use crate::lines::{self, Place};
+use crate::fetch::{FetchedModel, fetch_model};
+use crate::lines;
 use crate::reply::{Reply, Text};
 use crate::status::Status;
 use curve_views::Conjugate;
-use model_text::{Model, ModelError, append_list, append_number, append_word, read_model};
+use model_text::{Model, append_list, append_number, append_word};
 use mono_curve::{Curve, Listed};
 use outside_io::{ByteText, Shelf};
 use std::alloc::{AllocError, Global};
@@ -32,21 +30,9 @@ pub(crate) fn show_curve<S: Shelf>(
     ensures misses { Counts (S.misses shelf.old) (S.misses shelf.new) }
     ensures faults { Counts (S.faults shelf.old) (S.faults shelf.new) }
 {
-    match fetch(alloc, shelf, Place::First, model)? {
-        Fetched::Bytes(text) => Ok(answer_text(alloc, text.as_slice(), arc)?),
-        Fetched::Refused(reply) => Ok(reply),
-    }
-}
-
-/// Answers a model text.
-fn answer_text(alloc: Global, text: &[u8], arc: &str) -> Result<Reply, AllocError>
-    requires { length text.now ≤ file_most }
-    ensures { IfOk result (λ reply. OfModel (ShowsCurve arc.now) text.now reply.status (text_of reply.text)) }
-{
-    match read_model(alloc, text) {
-        Ok(model) => Ok(answer_model(alloc, &model, arc)?),
-        Err(ModelError::Fault { line, word }) => Ok(Reply::bad_line(alloc, line, word)?),
-        Err(ModelError::NoMemory) => Err(AllocError),
+    match fetch_model(alloc, shelf, model)? {
+        FetchedModel::Model(model) => Ok(answer_model(alloc, &model, arc)?),
+        FetchedModel::Refused(reply) => Ok(reply),
     }
 }
 

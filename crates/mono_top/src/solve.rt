@@ -1,23 +1,21 @@
 // The command `solve MODEL`.
-ghost use Rattle.std.specs.Prelude.{◌≡◌, ◌≤◌, ◌^◌, length, IfOk, Some};
+ghost use Rattle.std.specs.Prelude.{◌≡◌, IfOk, Some};
 ghost use Rattle.outside_io.specs.Counts.{Rose, Counts};
 ghost use Rattle.cert_text.specs.Shown.{shown};
 ghost use Rattle.mono_top.specs.Answer.{outside_of};
 ghost use Rattle.mono_top.specs.Fetch.{text_of};
-ghost use Rattle.mono_top.specs.Reading.{file_most};
 ghost use Rattle.mono_top.specs.Replies.{Replies};
 ghost use Rattle.mono_top.specs.Request.{solve as solve_request};
-ghost use Rattle.mono_top.specs.OfModel.{OfModel};
 ghost use Rattle.mono_top.specs.Solves.{SolvesModel, status_of};
 
-use crate::fetch::{Fetched, fetch};
+use crate::fetch::{FetchedModel, fetch_model};
 use crate::forced::{are_all_points, forced_certificate};
-use crate::lines::{self, Place};
+use crate::lines;
 use crate::reply::{Reply, Text};
 use crate::status::Status;
 use cert_text::{Certificate, print_cert};
 use ground_net::ground;
-use model_text::{Model, ModelError, read_model};
+use model_text::Model;
 use outside_io::Shelf;
 use std::alloc::{AllocError, Global};
 
@@ -32,21 +30,9 @@ pub(crate) fn solve<S: Shelf>(
     ensures misses { Counts (S.misses shelf.old) (S.misses shelf.new) }
     ensures faults { Counts (S.faults shelf.old) (S.faults shelf.new) }
 {
-    match fetch(alloc, shelf, Place::First, model)? {
-        Fetched::Bytes(text) => Ok(answer_text(alloc, text.as_slice())?),
-        Fetched::Refused(reply) => Ok(reply),
-    }
-}
-
-/// Answers a model text.
-fn answer_text(alloc: Global, text: &[u8]) -> Result<Reply, AllocError>
-    requires { length text.now ≤ file_most }
-    ensures { IfOk result (λ reply. OfModel SolvesModel text.now reply.status (text_of reply.text)) }
-{
-    match read_model(alloc, text) {
-        Ok(model) => Ok(answer_model(alloc, &model)?),
-        Err(ModelError::Fault { line, word }) => Ok(Reply::bad_line(alloc, line, word)?),
-        Err(ModelError::NoMemory) => Err(AllocError),
+    match fetch_model(alloc, shelf, model)? {
+        FetchedModel::Model(model) => Ok(answer_model(alloc, &model)?),
+        FetchedModel::Refused(reply) => Ok(reply),
     }
 }
 

@@ -9,6 +9,8 @@ pub enum Status {
     Done,
     Cut,
     Circuit,
+    /// The second file is not the text of a valid certificate of the model.
+    Rejected,
     Usage,
     /// The first bad line of the model text, counted from 1, and the word for its first fault.
     ModelRefused { line: u32, word: FaultWord },
@@ -30,6 +32,7 @@ impl Status {
             Status::Done => 0,
             Status::Cut => 1,
             Status::Circuit => 2,
+            Status::Rejected => 3,
             Status::Usage => 4,
             Status::ModelRefused { .. } => 5,
             Status::Missing => 6,

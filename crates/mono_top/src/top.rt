@@ -1,12 +1,12 @@
 // The top call.
-ghost use Rattle.std.specs.Prelude.{◌≡◌, ◌≢◌, ◌⊎◌, ℕ, None, IsSome};
+ghost use Rattle.std.specs.Prelude.{◌≡◌, ◌≢◌, ◌⊎◌, ℕ, List, None, IsSome};
 ghost use Rattle.std.specs.Option.{ForSome};
 ghost use Rattle.theory.specs.Grounded.{Entries};
 ghost use Rattle.model_text.specs.declared.fault.FaultWord.{FaultWord as Fault};
 ghost use Rattle.outside_io.specs.Counts.{Rose, Counts};
 ghost use Rattle.mono_top.specs.Answer.{Answers, outside_of};
-ghost use Rattle.mono_top.specs.Causes.{AsksFaulty, AsksSolvable, AsksUnbuilt, AsksUnknownArc, IsAnswerable, GoesThrough};
-ghost use Rattle.mono_top.specs.Headline.{Concludes};
+ghost use Rattle.mono_top.specs.Causes.{AsksFaulty, AsksSolvable, AsksToCheck, AsksInvalid, AsksUnbuilt, AsksUnknownArc, IsAnswerable, GoesThrough};
+ghost use Rattle.mono_top.specs.Headline.{Concludes, ConcludesCheck};
 ghost use Rattle.mono_top.specs.Ending.{WritesDue, WritesPart};
 ghost use Rattle.mono_top.specs.Reading.{ReachesMissing, ReachesPastMost, ReachesTooLong, HoldsFirst};
 ghost use Rattle.mono_top.specs.Request.{asked, files_of};
@@ -38,6 +38,11 @@ pub fn run<S: Shelf, K: Sink, L: Ledger>(
         → ForSome (S.holds shelf.old) (λ files. (m : Entries) → AsksSolvable files m (asked words.now)
         → Concludes m result (K.written out.old) (K.written out.new)) }
 
+    // A text from anywhere is accepted exactly where it is that of a valid certificate.
+    ensures checked { result ≢ Status.ReadFault → result ≢ Status.WriteFault → result ≢ Status.NoMemory
+        → ForSome (S.holds shelf.old) (λ files. (m : Entries) (text : List ℕ) → AsksToCheck files m text (asked words.now)
+        → ConcludesCheck m text result) }
+
     // When each refusal comes.
     ensures usage { result ≡ Status.Usage → asked words.now ≡ None }
     ensures usage_always { asked words.now ≡ None → (result ≡ Status.Usage) ⊎ (result ≡ Status.WriteFault) }
@@ -54,6 +59,10 @@ pub fn run<S: Shelf, K: Sink, L: Ledger>(
     ensures refused_always { ForSome (S.holds shelf.old) (λ files. (line : ℕ) (word : Fault) → AsksFaulty files line word (asked words.now)
         → ¬ Rose (S.faults shelf.old) (S.faults shelf.new)
         → (result ≡ Status.ModelRefused line word) ⊎ (result ≡ Status.NoMemory) ⊎ (result ≡ Status.WriteFault)) }
+    ensures rejected { result ≡ Status.Rejected → ForSome (S.holds shelf.old) (λ files. AsksInvalid files (asked words.now)) }
+    ensures rejected_always { ForSome (S.holds shelf.old) (λ files. AsksInvalid files (asked words.now)
+        → ¬ Rose (S.faults shelf.old) (S.faults shelf.new)
+        → (result ≡ Status.Rejected) ⊎ (result ≡ Status.NoMemory) ⊎ (result ≡ Status.WriteFault)) }
     ensures unbuilt { result ≡ Status.Unbuilt → ForSome (S.holds shelf.old) (λ files. AsksUnbuilt files (asked words.now)) }
     ensures unbuilt_always { ForSome (S.holds shelf.old) (λ files. AsksUnbuilt files (asked words.now)
         → ¬ Rose (S.faults shelf.old) (S.faults shelf.new)

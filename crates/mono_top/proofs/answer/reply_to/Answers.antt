@@ -19,6 +19,19 @@ returns-in_ok-solve-in-Some-Solve-clause-due g c =
     (Rose (g.S.Shelf.faults c.args.shelf.now) (g.S.Shelf.faults c.solve.new.shelf)))
     c.in_ok-solve-in-Some-Solve.field-0.status (text_of c.in_ok-solve-in-Some-Solve.field-0.text) answers
 
+pub returns-in_ok-check-in-Some-Check-clause-due : goal.returns-in_ok-check-in-Some-Check-clause-due
+returns-in_ok-check-in-Some-Check-clause-due g c =
+    let answers : Answers (asked c.args.words.now)
+    (outside_of (g.S.Shelf.holds c.args.shelf.now) (g.S.Shelf.rest c.check.new.shelf)
+    (Rose (g.S.Shelf.misses c.args.shelf.now) (g.S.Shelf.misses c.check.new.shelf))
+    (Rose (g.S.Shelf.faults c.args.shelf.now) (g.S.Shelf.faults c.check.new.shelf)))
+    c.in_ok-check-in-Some-Check.field-0.status (text_of c.in_ok-check-in-Some-Check.field-0.text) = search rules in
+    due (asked c.args.words.now)
+    (outside_of (g.S.Shelf.holds c.args.shelf.now) (g.S.Shelf.rest c.check.new.shelf)
+    (Rose (g.S.Shelf.misses c.args.shelf.now) (g.S.Shelf.misses c.check.new.shelf))
+    (Rose (g.S.Shelf.faults c.args.shelf.now) (g.S.Shelf.faults c.check.new.shelf)))
+    c.in_ok-check-in-Some-Check.field-0.status (text_of c.in_ok-check-in-Some-Check.field-0.text) answers
+
 pub returns-in_ok-show_curve-in-Some-Curve-clause-due : goal.returns-in_ok-show_curve-in-Some-Curve-clause-due
 returns-in_ok-show_curve-in-Some-Curve-clause-due g c =
     let answers : Answers (asked c.args.words.now)

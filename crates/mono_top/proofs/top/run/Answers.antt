@@ -4,8 +4,8 @@ use Rattle.outside_io.specs.Sink.{Grew}
 use Rattle.mono_top.specs.Answer.{outside_of}
 use Rattle.mono_top.specs.Fetch.{text_of}
 use Rattle.mono_top.specs.Request.{asked}
-use Rattle.mono_top.proofs.DueLemmas.{certified}
-use Rattle.mono_top.proofs.HeadlineLemmas.{concludes}
+use Rattle.mono_top.proofs.DueLemmas.{certified, checked}
+use Rattle.mono_top.proofs.HeadlineLemmas.{concludes, concludes_check}
 use Rattle.mono_top.proofs.top.run.Goals as goal
 
 pub returns-in-All-clause-headline : goal.returns-in-All-clause-headline
@@ -22,3 +22,11 @@ returns-in-All-clause-headline g c read written memory files told m asks =
 pub returns-in-All-clause-refused_always : goal.returns-in-All-clause-refused_always
 returns-in-All-clause-refused_always g c files told line word asks quiet =
     inl (c.in-Ok.ensures.due.refused_always files told line word asks quiet)
+
+pub returns-in-All-clause-checked : goal.returns-in-All-clause-checked
+returns-in-All-clause-checked g c read written memory files told m text asks =
+    let outside = outside_of (g.S.Shelf.holds c.args.shelf.now) (g.S.Shelf.rest c.reply_to.new.shelf)
+    (Rose (g.S.Shelf.misses c.args.shelf.now) (g.S.Shelf.misses c.reply_to.new.shelf))
+    (Rose (g.S.Shelf.faults c.args.shelf.now) (g.S.Shelf.faults c.reply_to.new.shelf)) in
+    let judged = checked (asked c.args.words.now) outside c.in-Ok.reply.status (text_of c.in-Ok.reply.text) c.in-Ok.ensures.replies read files told m text asks in
+    concludes_check m text c.in-Ok.reply.status judged.0 judged.1
