@@ -1,5 +1,5 @@
 -- What `position` returns, in the words `before_first` and `after_first`.
-use Rattle.std.specs.Prelude.{◌≡◌, ℕ, ◌+◌, ◌<◌, ◌≤◌, nat_lt, Bool, true, false, cond, refl, not, Option, None, Some, List, [], ◌∷◌, map, length, unwrap_or}
+use Rattle.std.specs.Prelude.{◌≡◌, ℕ, ◌+◌, ◌<◌, ◌≤◌, nat_lt, Bool, true, false, cond, refl, not, Option, None, Some, is_some, List, [], ◌∷◌, map, length, unwrap_or}
 use Rattle.std.specs.List.{position_or_len, prefix_len}
 use Rattle.std.proofs.Common.{arith, ap}
 use Rattle.std.proofs.lemmas.List.Sums.{prefix_len-le-length}
@@ -20,6 +20,15 @@ absent p xs is =
     elim (nat_lt (position_or_len p xs) (length xs)) as (λ b. ◌≡◌ {A = Option ℕ} None (cond b (Some (position_or_len p xs)) None) → b ≡ false)
     [ true ↦ λ e. cc | false ↦ λ e. refl ] is in
     grind (arith, tests)
+
+-- an answer that is there, and one that isn't
+pub some_there : {X : Type 0} (answer : Option X) → is_some answer ≡ true → (x : X) × (answer ≡ Some x)
+some_there None some = cc
+some_there (Some x) some = (x, refl)
+
+pub none_there : {X : Type 0} (answer : Option X) → is_some answer ≡ false → answer ≡ None
+none_there None none = refl
+none_there (Some x) none = cc
 
 pub or_length : {X : Type 0} (p : X → Bool) (xs : List X) → unwrap_or (first_place p xs) (length xs) ≡ position_or_len p xs
 or_length p xs =

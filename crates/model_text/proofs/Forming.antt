@@ -1,4 +1,4 @@
--- A well-formed model stays so with a further node and with a further arc.
+-- The empty model is well-formed, and a well-formed model stays so with a further node and with a further arc.
 use Rattle.std.proofs.Common.{◌≡◌, ◌≢◌, ℕ, ◌<◌, List, [], ◌∷◌, ◌++◌, length, None, sym, subst, arith}
 use Rattle.std.proofs.lemmas.List.{map_push, length_push}
 use Rattle.std.proofs.lemmas.List.Elements.{All-push}
@@ -6,7 +6,7 @@ use Rattle.std.proofs.lemmas.List.Quantifiers.{all_pairs_push}
 use Rattle.theory.specs.CurveList.{Listing, IsCurveList}
 use Rattle.theory.specs.Grounded.{Entries, NodeEntry, ArcEntry}
 use Rattle.model_text.specs.Names.{IsName}
-use Rattle.model_text.specs.Model.{node_names, arc_names, place_of, with_node, with_arc, AreNames, IsWithinLimits, IsWellFormed}
+use Rattle.model_text.specs.Model.{no_entries, node_names, arc_names, place_of, with_node, with_arc, AreNames, IsWithinLimits, IsWellFormed}
 use Rattle.model_text.specs.declared.model.TheConstants.{NODES_MOST, ARCS_MOST}
 use Rattle.model_text.proofs.Places.{absent}
 
@@ -14,6 +14,23 @@ names_push : (names : List (List ℕ)) (name : List ℕ) → AreNames names → 
 names_push names name are named none = record {
   each = All-push IsName names name are.each named;
   differ = all_pairs_push (λ a b. a ≢ b) names name are.differ (λ k d here. absent names name none k d here);
+}
+
+pub formed_empty : IsWellFormed no_entries
+formed_empty = record {
+  model = record {
+    supplies = λ i d here. absurd (omega arith);
+    curves = λ j d here. absurd (omega arith);
+    tails = λ j d here. absurd (omega arith);
+    heads = λ j d here. absurd (omega arith);
+    no_loops = λ j d here. absurd (omega arith);
+  };
+  nodes_most = omega arith;
+  arcs_most = omega arith;
+  nodes_named = record { each = λ k d here. absurd (omega arith); differ = λ i j d less here. absurd (omega arith) };
+  arcs_named = record { each = λ k d here. absurd (omega arith); differ = λ i j d less here. absurd (omega arith) };
+  supplies = λ k d here. absurd (omega arith);
+  curves = λ k d here. absurd (omega arith);
 }
 
 pub formed_with_node : (m : Entries) (name : List ℕ) (supply : Listing) → IsWellFormed m → IsName name

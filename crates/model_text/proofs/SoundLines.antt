@@ -1,5 +1,5 @@
 -- What a line that passes the tests may add to the model: its names are names, and the model has room for it.
-use Rattle.std.specs.Prelude.{◌≡◌, ℕ, zero, suc, ◌<◌, ◌==◌, nat_lt, nat_le, Bool, true, false, not, ◌&&◌, if◌then◌else◌, Option, None, Some, is_some, List, [], ◌∷◌, length, take, drop, refl}
+use Rattle.std.specs.Prelude.{◌≡◌, ℕ, zero, suc, ◌<◌, ◌==◌, nat_lt, nat_le, Bool, true, false, not, ◌&&◌, ◌||◌, if◌then◌else◌, Option, None, Some, is_some, List, [], ◌∷◌, ◌++◌, length, take, drop, refl}
 use Rattle.std.specs.List.{list_all}
 use Rattle.std.specs.Str.{bytes_eq}
 use Rattle.std.proofs.Common.{arith, get_or, ◌∙◌, sym, ap}
@@ -14,14 +14,14 @@ use Rattle.model_text.specs.declared.fault.FaultWord.{FaultWord}
 use Rattle.model_text.specs.declared.model.TheConstants.{NODES_MOST, ARCS_MOST}
 use Rattle.model_text.specs.Model.{node_names, arc_names, place_of, node_fault, arc_fault, with_node, with_arc}
 use Rattle.model_text.specs.Names.{is_name}
-use Rattle.model_text.specs.ModelText.{first_fault, word_at, names_wanted, is_node_line, is_arc_line, line_names, line_items, line_listing, lacks_names, lacks_numbers, is_beyond, is_full, is_misshapen, has_fall, is_twice, is_unknown, is_loop, with_line}
+use Rattle.model_text.specs.ModelText.{first_fault, entry_tests, word_at, names_wanted, is_node_line, is_arc_line, line_names, line_items, line_listing, lacks_names, lacks_numbers, is_beyond, is_full, is_misshapen, has_fall, is_twice, is_unknown, is_loop, with_line}
 use Rattle.model_text.specs.LineParts.{number_tests, model_tests}
 use Rattle.model_text.proofs.FirstPlace.{found}
 use Rattle.model_text.proofs.ListTests.{neither, false-unless}
 
 -- ---- tests in turn
 
-passes : (b : Bool) (word : FaultWord) (others : Option FaultWord) → (if b then Some word else others) ≡ None → (b ≡ false) × (others ≡ None)
+pub passes : {W : Type 0} (b : Bool) (word : W) (others : Option W) → (if b then Some word else others) ≡ None → (b ≡ false) × (others ≡ None)
 passes true word others none = cc
 passes false word others none = (refl, none)
 
@@ -30,12 +30,16 @@ pub record PassesAlone (words : List (List ℕ)) : Type 0 where
   pub numbers : lacks_numbers words ≡ false
   pub limit : is_beyond words ≡ false
 
-pub passes_alone : (words : List (List ℕ)) → first_fault (number_tests words) ≡ None → PassesAlone words
-passes_alone words none =
+alone-first : (words : List (List ℕ)) (others : List (Bool × FaultWord)) → first_fault (number_tests words ++ others) ≡ None
+    → PassesAlone words × (first_fault others ≡ None)
+alone-first words others none =
     let one = passes (lacks_names words) _ _ none in
     let two = passes (lacks_numbers words) _ _ one.1 in
     let three = passes (is_beyond words) _ _ two.1 in
-    record { names = one.0; numbers = two.0; limit = three.0 }
+    (record { names = one.0; numbers = two.0; limit = three.0 }, three.1)
+
+pub passes_alone : (words : List (List ℕ)) → first_fault (number_tests words) ≡ None → PassesAlone words
+passes_alone words none = (alone-first words [] none).0
 
 pub record PassesTogether (m : Entries) (words : List (List ℕ)) : Type 0 where
   pub room : is_full m words ≡ false
@@ -55,6 +59,22 @@ passes_together m words none =
     let six = passes (is_loop words) _ _ five.1 in
     record { room = one.0; shape = two.0; order = three.0; once = four.0; known = five.0; apart = six.0 }
 
+pub yes : (b : Bool) → not b ≡ false → b ≡ true
+yes true is = refl
+yes false is = cc
+
+-- a line after the header that fails no test
+pub record PassesAll (m : Entries) (words : List (List ℕ)) : Type 0 where
+  pub keyword : (is_node_line words || is_arc_line words) ≡ true
+  pub alone : PassesAlone words
+  pub together : PassesTogether m words
+
+pub passes_all : (m : Entries) (words : List (List ℕ)) → first_fault (entry_tests m words) ≡ None → PassesAll m words
+passes_all m words none =
+    let one = passes (not (is_node_line words || is_arc_line words)) _ _ none in
+    let two = alone-first words (model_tests m words) one.1 in
+    record { keyword = yes _ one.0; alone = two.0; together = passes_together m words two.1 }
+
 -- ---- names
 
 pub both : (a b : Bool) → (a && b) ≡ true → (a ≡ true) × (b ≡ true)
@@ -65,10 +85,6 @@ pub all-at : {X : Type 0} (p : X → Bool) (xs : List X) → list_all p xs ≡ t
 all-at p [] all k d below = absurd (omega arith)
 all-at p (x ∷ xs) all zero d below = (both (p x) (list_all p xs) all).0
 all-at p (x ∷ xs) all (suc k) d below = all-at p xs (both (p x) (list_all p xs) all).1 k d (omega arith)
-
-yes : (b : Bool) → not b ≡ false → b ≡ true
-yes true is = refl
-yes false is = cc
 
 -- the first name, which every line has
 pub first_is_name : (words : List (List ℕ)) → lacks_names words ≡ false → is_name (word_at words 1) ≡ true

@@ -1,5 +1,5 @@
 -- What the tables answer, said of the model's entries.
-use Rattle.std.proofs.Common.{◌≡◌, ◌≢◌, ℕ, suc, ◌<◌, Bool, false, if◌then◌else◌, List, [], ◌∷◌, ◌++◌, length, get_or, map, position, bytes_eq, Option, None, Some, is_some, Result, Ok, Err, OnOk, OnErr, refl, sym, ap, subst, ◌∙◌, arith}
+use Rattle.std.proofs.Common.{◌≡◌, ◌≢◌, ℕ, suc, ◌<◌, Bool, false, if◌then◌else◌, List, [], ◌∷◌, ◌++◌, length, get_or, map, position, bytes_eq, Option, None, is_some, Result, Ok, Err, OnOk, OnErr, refl, sym, ap, subst, ◌∙◌, arith}
 use Rattle.std.specs.Prelude.{nat_eq}
 use Rattle.std.specs.Cmp.Lexicographic.{pointwise}
 use Rattle.std.specs.declared.vec.Vec.{Vec}
@@ -12,6 +12,7 @@ use Rattle.model_text.specs.Model.{place_of, node_names, arc_names, with_node, w
 use Rattle.model_text.specs.ModelTables.{node_entry, arc_entry, table_entries}
 use Rattle.model_text.specs.Names.{IsName}
 use Rattle.model_text.specs.declared.model.TheConstants.{NODES_MOST, ARCS_MOST}
+use Rattle.model_text.proofs.FirstPlace.{none_there}
 use Rattle.model_text.proofs.Forming.{formed_with_node, formed_with_arc}
 use Rattle.model_text.proofs.Places.{positions_agree, fails_where_none}
 
@@ -78,8 +79,4 @@ either_way P (Err e) old new further ok err was will = subst P (sym err) was
 pub free : (answer : Option ℕ) (names told : List (List ℕ)) (key name said : List ℕ) → is_some answer ≡ false → answer ≡ place_of told said
     → said ≡ name → key ≡ name → names ≡ told → place_of names key ≡ None
 free answer names told key name said none was is key_is same =
-    ap (λ l. place_of l key) same ∙ ap (place_of told) (key_is ∙ sym is) ∙ sym was ∙ by answer none
-  where
-    by : (o : Option ℕ) → is_some o ≡ false → o ≡ None
-    by None h = refl
-    by (Some x) h = cc
+    ap (λ l. place_of l key) same ∙ ap (place_of told) (key_is ∙ sym is) ∙ sym was ∙ none_there answer none

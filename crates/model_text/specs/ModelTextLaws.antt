@@ -23,6 +23,10 @@ OneFaultLaw = (text : List ℕ) (line others : ℕ) (word other : FaultWord) →
 abbrev pub DecidedLaw : Type 0
 DecidedLaw = (text : List ℕ) → ((m : Entries) × Spells text m) ⊎ ((line : ℕ) × ((word : FaultWord) × IsFirstFault text line word))
 
+-- what a text spells is well-formed: names, limits, curve lists, ends of arcs
+abbrev pub SpelledIsFormedLaw : Type 0
+SpelledIsFormedLaw = (text : List ℕ) (m : Entries) → Spells text m → IsWellFormed m
+
 -- the printed form of a model spells it
 abbrev pub PrintedLaw : Type 0
 PrintedLaw = (m : Entries) → IsWellFormed m → Spells (printed_model m) m

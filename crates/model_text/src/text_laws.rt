@@ -1,5 +1,5 @@
 // Laws of the model text.
-ghost use Rattle.model_text.specs.ModelTextLaws.{OneModelLaw, SpelledOrBadLaw, OneFaultLaw, DecidedLaw, PrintedLaw, ReadBackLaw};
+ghost use Rattle.model_text.specs.ModelTextLaws.{OneModelLaw, SpelledOrBadLaw, OneFaultLaw, DecidedLaw, SpelledIsFormedLaw, PrintedLaw, ReadBackLaw};
 
 /// A text spells at most one model.
 pub fn one_model()
@@ -19,6 +19,11 @@ pub fn one_fault()
 /// Every text spells a model or has a first fault.
 pub fn decided()
     ensures { DecidedLaw }
+{}
+
+/// What a text spells is well-formed: its names, its limits, its curve lists and the ends of its arcs.
+pub fn spelled_is_formed()
+    ensures { SpelledIsFormedLaw }
 {}
 
 /// The printed form of a model spells it.
