@@ -7,14 +7,14 @@ use Rattle.theory.specs.Certificate.{Certificate, IsValid}
 use Rattle.theory.specs.Certificate.Certificate.{optimal, cut, circuit}
 use Rattle.model_text.specs.declared.fault.FaultWord.{FaultWord}
 use Rattle.model_text.specs.Model.{IsWellFormed, arc_names, place_of}
-use Rattle.model_text.proofs.TextLaws.{spelled_is_formed}
+use Rattle.model_text.proofs.SpelledForm.{spelled_is_formed}
 use Rattle.cert_text.proofs.OneText.{bad_line_has_none}
 use Rattle.cert_text.proofs.OneCertificate.{one_certificate}
 use Rattle.cert_check.specs.Verdict.{IsVerdict}
 use Rattle.cert_check.specs.declared.judged.Judged.{Judged}
 use Rattle.cert_check.specs.declared.judged.Judged.TheVariants.{Accepted, NotConserved, OffCurve, OutOfCapacity, NotCircuit, Endless, WrongNumber, NotNegative}
 use Rattle.cert_check.proofs.Verdicts.{accepted_is_valid, valid_is_accepted}
-use Rattle.mono_top.specs.Answer.{Outside, Answers, ReadsThen}
+use Rattle.mono_top.specs.Answer.{Outside, Answers, ReadsThen, ChecksFile}
 use Rattle.mono_top.specs.Causes.{AsksSolvable, AsksToCheck, GoesThrough}
 use Rattle.mono_top.specs.Checks.{ChecksText, IsValidText, status_by}
 use Rattle.mono_top.specs.Due.{IsDue}
@@ -111,15 +111,18 @@ judged m bytes status text formed (inr (c, spelled, (verdict, judges, is, said))
       | inl (done, accepted) ↦
           let judged_so = subst (λ (v : Judged). IsVerdict (grounded m) c v) accepted judges in
           inl (done, record { certificate = c; spelled = spelled; valid = accepted_is_valid (grounded m) c spelled.fits judged_so })
-      | inr (rejected, refused) ↦ inr (rejected, λ valid.
-          let same = one_certificate m bytes valid.certificate c formed valid.spelled spelled in
-          refused (valid_is_accepted (grounded m) c verdict judges (subst (λ (d : Certificate). IsValid (grounded m) d) same valid.valid)))
+      | inr (rejected, refused) ↦ inr (
+        rejected,
+        λ valid.
+            let same = one_certificate m bytes valid.certificate c formed valid.spelled spelled in
+            refused (valid_is_accepted (grounded m) c verdict judges (subst (λ (d : Certificate). IsValid (grounded m) d) same valid.valid)),
+      )
     ]
 
 checks_ends : (m : Entries) (bytes : List ℕ) (status : Status) (text : List ℕ) → ChecksText m bytes status text → (status ≡ Done) ⊎ (status ≡ Rejected)
 checks_ends m bytes status text (inl (line, bad, is, said)) = inr is
 checks_ends m bytes status text (inr (c, spelled, (verdict, judges, is, said))) =
-    elim (by_verdict verdict status is) [ | inl (done, accepted) ↦ inl done | inr (rejected, refused) ↦ inr rejected ]
+    elim (by_verdict verdict status is) [ inl (done, accepted) ↦ inl done | inr (rejected, refused) ↦ inr rejected ]
 
 ends_own : (status : Status) → (status ≡ Done) ⊎ (status ≡ Rejected) → IsOwn status
 ends_own status (inl is) = search rules
@@ -128,10 +131,6 @@ ends_own status (inr is) = search rules
 ends_not : (status other : Status) → other ≢ Done → other ≢ Rejected → (status ≡ Done) ⊎ (status ≡ Rejected) → status ≢ other
 ends_not status other not_done not_rejected (inl is) same = not_done (sym same ∙ is)
 ends_not status other not_done not_rejected (inr is) same = not_rejected (sym same ∙ is)
-
--- what is read and answered after the model
-abbrev pub ChecksFile : List ℕ → Outside → Entries → Status → List ℕ → Type 0
-ChecksFile certificate outside m status text = ReadsThen Second certificate (ChecksText m) outside status text
 
 checks_not : (other : Status) (certificate : List ℕ) (outside : Outside) (m : Entries) (status : Status) (text : List ℕ)
     → other ≢ Missing → other ≢ ReadFault → other ≢ TooLong → other ≢ Done → other ≢ Rejected
@@ -227,9 +226,12 @@ due (Some (check model certificate)) outside status text answers =
           let of = all.next (search rules) (λ line word e. cc) files told in
           let m = of.3.model in
           let second = of_text Second certificate (ChecksText m) outside status text of.3.next (λ e. cc) (λ e. cc) (λ e. cc) in
-          let told_so = judged m second.bytes status text (spelled_is_formed of.0 m of.3.spells) second.next in
-          (m, second.bytes, ((of.0, of.1, of.2, of.3.spells), (second.bytes, second.held files told, second.short, refl)),
-          rejected_is_invalid m second.bytes status told_so is);
+          let told_so = judged m second.bytes status text (spelled_is_formed of.0 m of.3.spells) second.next in (
+            m,
+            second.bytes,
+            ((of.0, of.1, of.2, of.3.spells), (second.bytes, second.held files told, second.short, refl)),
+            rejected_is_invalid m second.bytes status told_so is,
+          );
       rejected_always = λ files told asks quiet.
           let first = asks.2.0 in
           let second = asks.2.1 in
@@ -272,11 +274,13 @@ due (Some (show_curve model arc)) outside status text answers =
 
 -- the model of a request to solve is certified, where no fault kept the file from being read
 pub certified : (request : Option Request) (outside : Outside) (status : Status) (text : List ℕ) → Answers request outside status text
-    → status ≢ ReadFault → ForSome outside.holds (λ files. (m : Entries) → AsksSolvable files m request → IsCertified m status text)
+    → status ≢ ReadFault → ForSome outside.holds (λ files. (m : Entries) → AsksSolvable files m request → IsWellFormed m × IsCertified m status text)
 certified None outside status text answers read files told m asks = absurd asks
 certified (Some (solve model)) outside status text answers read files told m asks =
-    let all = due_of_model model [] SolvesModel outside status text (solves_answer outside) answers in
-    points_certified m status text (all.next_always files told m (asks.0, asks.1, asks.2, asks.3.0) read) asks.3.1
+    let all = due_of_model model [] SolvesModel outside status text (solves_answer outside) answers in (
+      spelled_is_formed asks.0 m asks.3.0,
+      points_certified m status text (all.next_always files told m (asks.0, asks.1, asks.2, asks.3.0) read) asks.3.1,
+    )
 certified (Some (check model certificate)) outside status text answers read files told m asks = absurd asks
 certified (Some (show_curve model arc)) outside status text answers read files told m asks = absurd asks
 

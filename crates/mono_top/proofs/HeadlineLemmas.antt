@@ -27,10 +27,10 @@ kind_is net (optimal x u cost value) status says is = (λ e. absurd cc, λ none.
 kind_is net (cut side capacity) status says is = (λ e. says, λ none. is)
 kind_is net (circuit x walk span) status says is = (λ e. absurd cc, λ none. absurd (none 1 x one_is_one says.flow))
 
-pub concludes : (m : Entries) (status : Status) (text : List ℕ) (old new : Option (List ℕ)) → IsCertified m status text → Grew old new text
+pub concludes : (m : Entries) (status : Status) (text : List ℕ) (old new : Option (List ℕ)) → IsWellFormed m → IsCertified m status text → Grew old new text
     → Concludes m status old new
-concludes m status text old new certified grew =
-    let says = certificate_says (grounded m) certified.certificate (grounded_is_network m certified.is_model) certified.valid in
+concludes m status text old new formed certified grew =
+    let says = certificate_says (grounded m) certified.certificate (grounded_is_network m formed.model) certified.valid in
     record {
       text = text;
       certified = certified;
@@ -45,13 +45,13 @@ concludes_check m bytes status formed judged =
     λ valid. certificate_says (grounded m) valid.certificate (grounded_is_network m formed.model) valid.valid in
     elim judged [
       | inl (done, valid) ↦ record {
-          accepted = (λ e. valid, λ e. done);
-          rejected = (λ e. absurd cc, λ invalid. absurd (invalid valid));
-          says = says;
-        }
+        accepted = (λ e. valid, λ e. done);
+        rejected = (λ e. absurd cc, λ invalid. absurd (invalid valid));
+        says = says;
+      }
       | inr (rejected, invalid) ↦ record {
-          accepted = (λ e. absurd cc, λ valid. absurd (invalid valid));
-          rejected = (λ e. invalid, λ e. rejected);
-          says = says;
-        }
+        accepted = (λ e. absurd cc, λ valid. absurd (invalid valid));
+        rejected = (λ e. invalid, λ e. rejected);
+        says = says;
+      }
     ]

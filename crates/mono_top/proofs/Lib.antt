@@ -1,3 +1,4 @@
+pub mod NamesLemmas
 pub mod FetchLemmas
 pub mod ModelFileLemmas
 pub mod DueLemmas

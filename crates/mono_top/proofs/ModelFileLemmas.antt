@@ -218,4 +218,3 @@ due_of_model model names Next outside status text answer reads =
           (reached First model (OfModel Next) outside status text reads read files told asks.0 asks.1 asks.2) asks.3;
       quiet = λ quiet e. quiet (files_due.faulted e);
     }
-

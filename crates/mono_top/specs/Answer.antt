@@ -3,6 +3,7 @@
 -- and the text that are due. Statuses without a text of their own, a write fault and want of memory, are due nowhere.
 use Rattle.std.specs.Prelude.{◌≡◌, ◌⊎◌, ℕ, ◌≤◌, List, length, Option, Some, None}
 use Rattle.std.specs.Option.{ForSome}
+use Rattle.theory.specs.Grounded.{Entries}
 use Rattle.outside_io.specs.Files.{Files, file_of}
 use Rattle.mono_top.specs.Lines.{usage_line, missing_line, read_fault_line, too_long_line}
 use Rattle.mono_top.specs.Reading.{file_most, IsReadPastMost}
@@ -40,10 +41,14 @@ ReadsThen place name Next outside status text =
     RefusesFile place name outside status text
     ⊎ ((bytes : List ℕ) × ForSome outside.holds (λ files. file_of files name ≡ Some bytes) × (length bytes ≤ file_most) × Next bytes status text)
 
+-- what `check` reads and answers once it has the model
+abbrev pub ChecksFile : List ℕ → Outside → Entries → Status → List ℕ → Type 0
+ChecksFile certificate outside m status text = ReadsThen Second certificate (ChecksText m) outside status text
+
 -- the order of the refusals is the order of the readings
 abbrev pub Answers : Option Request → Outside → Status → List ℕ → Type 0
 Answers None outside status text = (status ≡ Usage) × (text ≡ usage_line)
 Answers (Some (solve model)) outside status text = ReadsThen First model (OfModel SolvesModel) outside status text
 Answers (Some (check model certificate)) outside status text =
-    ReadsThen First model (OfModel (λ m. ReadsThen Second certificate (ChecksText m) outside)) outside status text
+    ReadsThen First model (OfModel (ChecksFile certificate outside)) outside status text
 Answers (Some (show_curve model arc)) outside status text = ReadsThen First model (OfModel (ShowsCurve arc)) outside status text

@@ -1,6 +1,6 @@
 -- What `solve` answers to a model. A wider input changes these definitions and no clause.
 use Rattle.std.specs.Prelude.{◌≡◌, ◌⊎◌, ℕ, ◌<◌, List, length}
-use Rattle.theory.specs.Grounded.{Entries, IsModel, grounded}
+use Rattle.theory.specs.Grounded.{Entries, grounded}
 use Rattle.theory.specs.Certificate.{Certificate, IsValid}
 use Rattle.theory.specs.Certificate.Certificate.{optimal, cut, circuit}
 use Rattle.model_text.specs.Model.{node_at, arc_at}
@@ -22,7 +22,6 @@ status_of (circuit x walk span) = Circuit
 
 -- the text of a certificate that is valid for the model
 pub record IsCertified (m : Entries) (status : Status) (text : List ℕ) : Type 0 where
-  pub is_model : IsModel m
   pub certificate : Certificate
   pub valid : IsValid (grounded m) certificate
   pub kind : status ≡ status_of certificate

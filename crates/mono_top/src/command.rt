@@ -5,7 +5,9 @@ ghost use Rattle.mono_top.specs.Commands.{request_by};
 
 #[derive(Clone, Copy)]
 pub(crate) enum Command<'a> {
-    Solve { model: &'a str },
+    Solve {
+        model: &'a str,
+    },
     Check {
         model: &'a str,
         certificate: &'a str,

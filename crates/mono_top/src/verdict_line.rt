@@ -38,7 +38,12 @@ pub(crate) fn verdict_line(
             append_node(&mut out, b"rejected not-conserved node", model, node)?
         }
         Judged::OffCurve(arc) => append_arc(&mut out, b"rejected off-curve", model, arc)?,
-        Judged::OutOfCapacity(arc) => append_arc(&mut out, b"rejected out-of-capacity", model, arc)?,
+        Judged::OutOfCapacity(arc) => append_arc(
+            &mut out,
+            b"rejected out-of-capacity",
+            model,
+            arc,
+        )?,
         Judged::NotCircuit(number) => append_count(&mut out, b"rejected not-circuit step", number)?,
         Judged::Endless(arc) => append_arc(&mut out, b"rejected endless", model, arc)?,
         Judged::WrongNumber { stated, right } => {

@@ -15,9 +15,9 @@ returns-in-All-clause-headline g c read written memory files told m asks =
     (Rose (g.S.Shelf.faults c.args.shelf.now) (g.S.Shelf.faults c.reply_to.new.shelf)) in
     let grew : Grew (g.K.Sink.written c.args.out.now) (g.K.Sink.written c.write_all.new.out) (text_of c.in-Ok.reply.text) =
     rw (← c.as_slice.ensures) (c.write_all.ensures.all c.in-All.is) in
+    let sound = certified (asked c.args.words.now) outside c.in-Ok.reply.status (text_of c.in-Ok.reply.text) c.in-Ok.ensures.replies read files told m asks in
     concludes m c.in-Ok.reply.status (text_of c.in-Ok.reply.text) (g.K.Sink.written c.args.out.now) (g.K.Sink.written c.write_all.new.out)
-    (certified (asked c.args.words.now) outside c.in-Ok.reply.status (text_of c.in-Ok.reply.text) c.in-Ok.ensures.replies read files told m asks)
-    grew
+    sound.0 sound.1 grew
 
 pub returns-in-All-clause-refused_always : goal.returns-in-All-clause-refused_always
 returns-in-All-clause-refused_always g c files told line word asks quiet =
