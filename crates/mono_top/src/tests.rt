@@ -6,14 +6,15 @@ use mono_curve::Steps;
 use outside_io::{MemoryShelf, MemorySink};
 use std::alloc::{AllocError, Global};
 use std::marker::Brand;
+use std::process::Abort;
 use std::sync::ledger::{Blank, Ledger};
 use std::test::Fail;
 
-const EMPTY: &[u8] = b"network 1\n";
+pub(crate) const EMPTY: &[u8] = b"network 1\n";
 
-const CERTIFICATE: &[u8] = b"certificate 1 optimal\ncost 0\nvalue 0\n";
+pub(crate) const CERTIFICATE: &[u8] = b"certificate 1 optimal\ncost 0\nvalue 0\n";
 
-const USAGE: &[u8] = b"usage: monotropic COMMAND WORDS\n";
+pub(crate) const USAGE: &[u8] = b"usage: monotropic COMMAND WORDS\n";
 
 /// The forced flow is conserved; with the bases it costs 7 - 2.
 const CONSERVED: &[u8] = b"network 1\r\nnode s 4 base 7 # supply\nnode t -4\narc a s t +04 base -2";
@@ -22,9 +23,9 @@ const CONSERVED_CERTIFICATE: &[u8] =
     b"certificate 1 optimal\ncost 5\nvalue 5\nnode s 0 4\nnode t 0 -4\narc a 4\n";
 
 /// The arc takes 3 of the 5 that the supply brings.
-const TOO_LITTLE: &[u8] = b"network 1\nnode s 5\nnode t -5\narc a s t 3\n";
+pub(crate) const TOO_LITTLE: &[u8] = b"network 1\nnode s 5\nnode t -5\narc a s t 3\n";
 
-const ORDINARY: &[u8] = b"network 1\nnode s 5\nnode t -5\narc a s t 0 2 4 5 10\n";
+pub(crate) const ORDINARY: &[u8] = b"network 1\nnode s 5\nnode t -5\narc a s t 0 2 4 5 10\n";
 
 const CURVES: &[u8] =
     b"network 1\nnode s\nnode t\narc p s t 0 2 4 5 10\narc q s t 5\narc r s t -4 -1 +inf\narc w s t -inf 3 +inf\narc h s t 2 3 6 base 10\n";
@@ -32,21 +33,21 @@ const CURVES: &[u8] =
 /// One call: its words, over a source that holds the file `a` and, where there is one, the certificate `c`, and what comes
 /// of it.
 #[derive(Clone, Copy)]
-struct Row {
-    words: &'static [&'static str],
-    text: &'static [u8],
-    certificate: Option<&'static [u8]>,
+pub(crate) struct Row {
+    pub words: &'static [&'static str],
+    pub text: &'static [u8],
+    pub certificate: Option<&'static [u8]>,
     // The file is the text, filled up to this length.
-    length: usize,
+    pub length: usize,
     // The calls of the source, then those of the sink, that fail.
-    source_fails: &'static [u64],
-    sink_fails: &'static [u64],
-    code: u8,
-    written: &'static [u8],
+    pub source_fails: &'static [u64],
+    pub sink_fails: &'static [u64],
+    pub code: u8,
+    pub written: &'static [u8],
 }
 
 /// A row with the text as it is, in which no call fails.
-const fn plain(
+pub(crate) const fn plain(
     words: &'static [&'static str],
     text: &'static [u8],
     code: u8,
@@ -65,7 +66,7 @@ const fn plain(
 }
 
 /// A row that checks a certificate.
-const fn checks(
+pub(crate) const fn checks(
     text: &'static [u8],
     certificate: &'static [u8],
     code: u8,
@@ -103,6 +104,14 @@ fn outcome<L: Ledger>(
     let mut steps = Steps::<L>::open(blank);
     let status = run(alloc, words.as_slice(), &mut shelf, &mut out, &mut steps);
     Ok((status, out))
+}
+
+/// Runs the row's call and compares what comes of it.
+pub(crate) fn compare(rt: &impl Abort, alloc: Global, row: &Row) -> Result<(), Fail> {
+    let (status, out) = outcome::<Brand>(alloc, row, Blank::new(1))?;
+    assert_eq!(rt; status.code(), row.code, "{:?}", row.words);
+    assert_eq!(rt; out.bytes(), row.written);
+    Ok(())
 }
 
 #[test]
@@ -184,242 +193,7 @@ fn rows(rt: HostRuntime) -> Result<(), Fail> {
         ),
     ];
     for row in &rows {
-        let (status, out) = outcome::<Brand>(rt.alloc(), row, Blank::new(1))?;
-        assert_eq!(rt; status.code(), row.code, "{:?}", row.words);
-        assert_eq!(rt; out.bytes(), row.written);
-    }
-    Ok(())
-}
-
-/// A corner: the arc carries 4, where any tension from 2 to 5 is on its curve.
-const CORNER: &[u8] = b"network 1\nnode s 4\nnode t -4\narc a s t 0 2 4 5 10\n";
-
-/// Two arcs of the same price.
-const TWO_WAYS: &[u8] = b"network 1\nnode s 6\nnode t -6\narc a s t 0 1 10\narc b s t 0 1 10\n";
-
-/// Going round over a and b earns 2.
-const ROUND: &[u8] = b"network 1\nnode s\nnode t\narc a s t 0 -3 +inf\narc b t s 0 1 +inf\n";
-
-/// Going round earns nothing.
-const ROUND_FOR_NOTHING: &[u8] =
-    b"network 1\nnode s\nnode t\narc a s t 0 2 +inf\narc b t s 0 -2 +inf\n";
-
-/// The arc takes just what the supply brings.
-const FULL: &[u8] = b"network 1\nnode s 3\nnode t -3\narc a s t 0 1 3\n";
-
-const WRONG_SUPPLY: &[u8] =
-    b"certificate 1 optimal\ncost 13\nvalue 13\nnode s 0 6\nnode t 5 -5\narc a 6\n";
-
-const ACCEPTED_OPTIMAL: &[u8] = b"accepted optimal\n";
-
-#[test]
-fn certificates(rt: HostRuntime) -> Result<(), Fail> {
-    let rows = [
-        checks(
-            ORDINARY,
-            b"certificate 1 optimal\ncost 13\nvalue 13\nnode s 0 5\nnode t 5 -5\narc a 5\n",
-            0,
-            ACCEPTED_OPTIMAL,
-        ),
-        checks(
-            ORDINARY,
-            b"certificate 1 optimal\ncost 14\nvalue 13\nnode s 0 5\nnode t 5 -5\narc a 5\n",
-            3,
-            b"rejected wrong-number stated 14 right 13\n",
-        ),
-        checks(
-            ORDINARY,
-            b"certificate 1 optimal\ncost 13\nvalue 12\nnode s 0 5\nnode t 5 -5\narc a 5\n",
-            3,
-            b"rejected wrong-number stated 12 right 13\n",
-        ),
-        checks(
-            ORDINARY,
-            b"certificate 1 optimal\ncost 13\nvalue 13\nnode s 0 5\nnode t 5 -5\narc a 6\n",
-            3,
-            b"rejected not-conserved node s\n",
-        ),
-        checks(
-            ORDINARY,
-            WRONG_SUPPLY,
-            3,
-            b"rejected not-conserved node *\n",
-        ),
-        checks(
-            ORDINARY,
-            b"certificate 1 optimal\ncost 13\nvalue 13\nnode s 0 5\nnode t 0 -5\narc a 5\n",
-            3,
-            b"rejected off-curve arc a\n",
-        ),
-        checks(
-            ORDINARY,
-            b"certificate 1 optimal\ncost 13\nvalue 13\nnode s 0 5\nnode t 5 -5\narc a 05\n",
-            3,
-            b"rejected bad-text line 6\n",
-        ),
-        checks(
-            ORDINARY,
-            b"certificate 1 optimal\ncost 13\nvalue 13\nnode s 0 5\nnode t 5 -5\n",
-            3,
-            b"rejected bad-text line 6\n",
-        ),
-        checks(
-            ORDINARY,
-            b"certificate 1 optimal\ncost 13\nvalue 13\nnode s 0 5\nnode t 5 -5\narc a 5",
-            3,
-            b"rejected bad-text line 6\n",
-        ),
-        checks(
-            ORDINARY,
-            b"certificate 1 optimal\ncost 13\nvalue 13\nnode s 0 5\nnode t 5 -5\narc a 5\n\n",
-            3,
-            b"rejected bad-text line 7\n",
-        ),
-        checks(
-            CORNER,
-            b"certificate 1 optimal\ncost 8\nvalue 8\nnode s 0 4\nnode t 1 -4\narc a 4\n",
-            3,
-            b"rejected off-curve arc a\n",
-        ),
-        checks(
-            CORNER,
-            b"certificate 1 optimal\ncost 8\nvalue 8\nnode s 0 4\nnode t 2 -4\narc a 4\n",
-            0,
-            ACCEPTED_OPTIMAL,
-        ),
-        checks(
-            CORNER,
-            b"certificate 1 optimal\ncost 8\nvalue 8\nnode s 0 4\nnode t 3 -4\narc a 4\n",
-            0,
-            ACCEPTED_OPTIMAL,
-        ),
-        checks(
-            CORNER,
-            b"certificate 1 optimal\ncost 8\nvalue 8\nnode s 0 4\nnode t 4 -4\narc a 4\n",
-            0,
-            ACCEPTED_OPTIMAL,
-        ),
-        checks(
-            CORNER,
-            b"certificate 1 optimal\ncost 8\nvalue 8\nnode s 0 4\nnode t 5 -4\narc a 4\n",
-            0,
-            ACCEPTED_OPTIMAL,
-        ),
-        checks(
-            CORNER,
-            b"certificate 1 optimal\ncost 8\nvalue 8\nnode s 0 4\nnode t 6 -4\narc a 4\n",
-            3,
-            b"rejected off-curve arc a\n",
-        ),
-        checks(
-            TWO_WAYS,
-            b"certificate 1 optimal\ncost 6\nvalue 6\nnode s 0 6\nnode t 1 -6\narc a 6\narc b 0\n",
-            0,
-            ACCEPTED_OPTIMAL,
-        ),
-        checks(
-            TWO_WAYS,
-            b"certificate 1 optimal\ncost 6\nvalue 6\nnode s 0 6\nnode t 1 -6\narc a 3\narc b 3\n",
-            0,
-            ACCEPTED_OPTIMAL,
-        ),
-        checks(
-            FULL,
-            b"certificate 1 cut\ncapacity 0\nside s\n",
-            3,
-            b"rejected not-negative\n",
-        ),
-        Row {
-            certificate: Some(CERTIFICATE),
-            ..plain(&["check", "a", "d"], EMPTY, 6, b"missing file 2\n")
-        },
-        Row {
-            certificate: Some(CERTIFICATE),
-            ..plain(&["check", "a", "d"], b"", 5, b"model line 1: header\n")
-        },
-        Row {
-            certificate: Some(CERTIFICATE),
-            ..plain(&["check", "b", "c"], EMPTY, 6, b"missing file 1\n")
-        },
-        plain(&["check", "a"], EMPTY, 4, USAGE),
-        checks(EMPTY, CERTIFICATE, 0, ACCEPTED_OPTIMAL),
-    ];
-    for row in &rows {
-        let (status, out) = outcome::<Brand>(rt.alloc(), row, Blank::new(1))?;
-        assert_eq!(rt; status.code(), row.code);
-        assert_eq!(rt; out.bytes(), row.written);
-    }
-    Ok(())
-}
-
-#[test]
-fn circuits(rt: HostRuntime) -> Result<(), Fail> {
-    let rows = [
-        checks(
-            ROUND,
-            b"certificate 1 circuit\nspan -2\nnode s 0\nnode t 0\narc a 0\narc b 0\nstep + arc a\nstep + arc b\n",
-            0,
-            b"accepted circuit\n",
-        ),
-        checks(
-            ROUND,
-            b"certificate 1 circuit\nspan -4\nnode s 0\nnode t 0\narc a 0\narc b 0\nstep + arc a\nstep + arc b\nstep + arc a\nstep + arc b\n",
-            3,
-            b"rejected not-circuit step 3\n",
-        ),
-        checks(
-            ROUND,
-            b"certificate 1 circuit\nspan -2\nnode s 0\nnode t 0\narc a 0\narc b 0\nstep + arc a\n",
-            3,
-            b"rejected not-circuit step 2\n",
-        ),
-        checks(
-            ROUND,
-            b"certificate 1 circuit\nspan -2\nnode s 0\nnode t 0\narc a 0\narc b 0\n",
-            3,
-            b"rejected not-circuit step 1\n",
-        ),
-        checks(
-            ROUND,
-            b"certificate 1 circuit\nspan -2\nnode s 0\nnode t 0\narc a 1\narc b 0\nstep + arc a\nstep + arc b\n",
-            3,
-            b"rejected not-conserved node s\n",
-        ),
-        checks(
-            ROUND,
-            b"certificate 1 circuit\nspan -2\nnode s 0\nnode t 0\narc a -1\narc b -1\nstep + arc a\nstep + arc b\n",
-            3,
-            b"rejected out-of-capacity arc a\n",
-        ),
-        checks(
-            ROUND,
-            b"certificate 1 circuit\nspan -2\nnode s 0\nnode t 0\narc a 0\narc b 0\nstep + arc a\nstep - node t\nstep + node s\n",
-            3,
-            b"rejected endless node t\n",
-        ),
-        checks(
-            ROUND,
-            b"certificate 1 circuit\nspan -3\nnode s 0\nnode t 0\narc a 0\narc b 0\nstep + arc a\nstep + arc b\n",
-            3,
-            b"rejected wrong-number stated -3 right -2\n",
-        ),
-        checks(
-            ROUND,
-            b"certificate 1 cut\ncapacity 0\nside s\n",
-            3,
-            b"rejected endless arc a\n",
-        ),
-        checks(
-            ROUND_FOR_NOTHING,
-            b"certificate 1 circuit\nspan 0\nnode s 0\nnode t 0\narc a 0\narc b 0\nstep + arc a\nstep + arc b\n",
-            3,
-            b"rejected not-negative\n",
-        ),
-    ];
-    for row in &rows {
-        let (status, out) = outcome::<Brand>(rt.alloc(), row, Blank::new(1))?;
-        assert_eq!(rt; status.code(), row.code);
-        assert_eq!(rt; out.bytes(), row.written);
+        compare(&rt, rt.alloc(), row)?;
     }
     Ok(())
 }
