@@ -1,0 +1,3 @@
+-- Passes over nodes and arcs, and their sums:
+pub mod Scans
+pub mod PartialSums

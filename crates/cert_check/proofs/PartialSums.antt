@@ -1,0 +1,19 @@
+-- A further term of a sum, and that its sums stay far from the largest numbers of 128 bits.
+use Rattle.std.proofs.Common.{◌≡◌, ℕ, suc, ◌+◌, ◌*◌, ◌^◌, ◌≤◌, ℤ, pos, ◌+ℤ◌, refl, arith, FitsSigned}
+use Rattle.std.specs.Int.{w128}
+use Rattle.std.proofs.lemmas.Int.{ints}
+use Rattle.theory.specs.Limits.{IsWithin}
+use Rattle.theory.proofs.Bounds.{within_sum, within_fits128}
+use Rattle.cert_check.specs.PartialSum.{IsPartialSum}
+
+pub partial-none : (term : ℕ → ℤ) (most : ℕ) → IsPartialSum term most 0 (pos 0)
+partial-none term most = record { is = refl; within = (omega (arith, ints), omega (arith, ints)) }
+
+pub partial-further : (term : ℕ → ℤ) (most n : ℕ) (sum z : ℤ) → IsPartialSum term most n sum → z ≡ term n → IsWithin most z
+    → IsPartialSum term most (n + 1) (sum +ℤ z)
+partial-further term most n sum z so_far is small = record {
+  is = let e : n + 1 ≡ suc n = omega arith in rw (e, so_far.is, is) refl;
+  within =
+      let e : (n + 1) * most ≡ n * most + most = omega arith in
+      rw e (within_sum (n * most) most sum z so_far.within small);
+}
