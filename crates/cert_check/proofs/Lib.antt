@@ -1,3 +1,7 @@
 -- Passes over nodes and arcs, and their sums:
 pub mod Scans
 pub mod PartialSums
+-- Circuits:
+pub mod Walks
+-- Verdicts:
+pub mod Verdicts
