@@ -3,12 +3,13 @@
 -- certificate is accepted. Each test finds at most one thing, and never where it passes. So two verdicts are of the same
 -- test, since else the earlier of their tests would both fail and pass, and then they say the same.
 -- A certificate is valid where every test passes. Then accepted is a verdict, and so the only one.
-use Rattle.std.proofs.Common.{◌≡◌, ◌≢◌, ◌↔◌, ℕ, ◌+◌, ◌<◌, ◌⊎◌, inl, inr, List, Bool, length, refl, sym, ap, ap₂, ◌∙◌, subst, ⊎_elim, ℤ, pos, ◌≤ℤ◌, ◌<ℤ◌, arith}
+use Rattle.std.proofs.Common.{◌≡◌, ◌≢◌, ◌↔◌, ℕ, zero, suc, ◌+◌, ◌<◌, ◌⊎◌, inl, inr, List, [], ◌∷◌, Bool, length, refl, sym, ap, ap₂, ◌∙◌, subst, ⊎_elim, ℤ, pos, ◌≤ℤ◌, ◌<ℤ◌, arith}
 use Rattle.std.proofs.lemmas.Int.{ints}
 use Rattle.std.proofs.lemmas.Bool.{false≢true}
 use Rattle.theory.specs.declared.ext.Ext.{Ext}
 use Rattle.theory.specs.declared.network.Step.{Step}
 use Rattle.theory.specs.First.{IsFirstFailing}
+use Rattle.theory.specs.Sums.{Each}
 use Rattle.theory.specs.Ends.{IsFinite}
 use Rattle.theory.specs.Network.{Network, «at»}
 use Rattle.theory.specs.Conserved.{IsConserved}
@@ -84,3 +85,168 @@ endless_test verdict n end =
     first_test verdict (IsFirstEndless n end) (AllPass n (λ j. IsFinite (end j)))
     (λ j k f g. one_first n (λ j. IsFinite (end j)) j k (endless-failing n end j f) (endless-failing n end k g))
     (λ k first all. (endless-failing n end k first).fails (all k first.there))
+
+-- ---- the first bad step, or none and the walk isn't closed
+
+fault-failing : (net : Network) (walk : List Step) (k : ℕ) → IsFirstBadStep net walk k
+    → IsFirstFailing (length walk) (λ j. IsBadStep net walk j → ⊥) k
+fault-failing net walk k first = record { there = first.there; fails = λ good. good first.bad; before = first.before }
+
+one_fault : (net : Network) (walk : List Step) (m n : ℕ) → IsFault net walk m → IsFault net walk n → m ≡ n
+one_fault net walk m n (inl f) (inl g) =
+    let same = one_first (length walk) (λ j. IsBadStep net walk j → ⊥) f.0 g.0 (fault-failing net walk f.0 f.2) (fault-failing net walk g.0 g.2) in
+    omega (arith, f.1, g.1)
+one_fault net walk m n (inl f) (inr g) = absurd (g.1.before f.0 f.2.there f.2.bad)
+one_fault net walk m n (inr f) (inl g) = absurd (f.1.before g.0 g.2.there g.2.bad)
+one_fault net walk m n (inr f) (inr g) = f.0 ∙ sym g.0
+
+fault-no_circuit : (net : Network) (walk : List Step) (n : ℕ) → IsFault net walk n → IsCircuit net walk → ⊥
+fault-no_circuit net walk n (inl f) round = circuit-no_bad net walk f.0 round f.2.there f.2.bad
+fault-no_circuit net walk n (inr f) round = f.1.not_closed (circuit-closed net walk round)
+
+circuit_test : (net : Network) (walk : List Step) → IsTest (FindsNumber NotCircuit (IsFault net walk)) (IsCircuit net walk)
+circuit_test net walk = first_test NotCircuit (IsFault net walk) (IsCircuit net walk) (one_fault net walk) (fault-no_circuit net walk)
+
+-- ---- numbers
+
+abbrev FindsWrong : ℤ → ℤ → Judged → Type 0
+FindsWrong number due v = (stated : ℤ) × (right : ℤ) × (v ≡ WrongNumber stated right) × IsWrong number due stated right
+
+number_test : (number due : ℤ) → IsTest (FindsWrong number due) (number ≡ due)
+number_test number due = record {
+  once = λ v w f g.
+      f.2 ∙ ap₂ WrongNumber (f.3.stated_is ∙ sym g.3.stated_is) (f.3.right_is ∙ sym g.3.right_is) ∙ sym g.2;
+  not_both = λ v f right. f.3.wrong right;
+}
+
+abbrev FindsNotNegative : ℤ → Judged → Type 0
+FindsNotNegative number v = (v ≡ NotNegative) × (pos 0 ≤ℤ number)
+
+sign_test : (number : ℤ) → IsTest (FindsNotNegative number) (number <ℤ pos 0)
+sign_test number = record {
+  once = λ v w f g. f.0 ∙ sym g.0;
+  not_both = λ v f negative. (let least = f.1 in absurd (omega (arith, ints)));
+}
+
+-- ---- the verdicts on each kind are those of its tests
+
+abbrev AfterSum : ℤ → ℤ → Judged → Type 0
+AfterSum number due = OnTests (FindsWrong number due) (number ≡ due) (OnTests (FindsNotNegative number) (number <ℤ pos 0) IsAccepted)
+
+one_after_sum : (number due : ℤ) → Unique (AfterSum number due)
+one_after_sum number due =
+    one_of_tests (FindsWrong number due) (number ≡ due) (OnTests (FindsNotNegative number) (number <ℤ pos 0) IsAccepted) (number_test number due)
+    (one_of_tests (FindsNotNegative number) (number <ℤ pos 0) IsAccepted (sign_test number) one_accepted)
+
+abbrev PairTests : Network → List ℤ → List ℤ → ℤ → ℤ → Judged → Type 0
+PairTests net x u cost value =
+    OnTests (FindsNumber (λ k. NotConserved (record { 0 = k })) (IsFirstFailing net.nodes (IsBalanced net x))) (AllPass net.nodes (IsBalanced net x))
+    (OnTests (FindsNumber (λ k. OffCurve (record { 0 = k })) (IsFirstFailing (length net.arcs) (IsPairOfCurve net x u))) (AllPass (length net.arcs) (IsPairOfCurve net x u))
+    (OnTests (FindsWrong cost (total_cost 1 net («at» x))) (cost ≡ total_cost 1 net («at» x))
+    (OnTests (FindsWrong value (total_value 1 net («at» u))) (value ≡ total_value 1 net («at» u)) IsAccepted)))
+
+pair_tests : (net : Network) (x u : List ℤ) (cost value : ℤ) (v : Judged) → OnPair net x u cost value v → PairTests net x u cost value v
+pair_tests net x u cost value (NotConserved node) on = fails (node.0, refl, on)
+pair_tests net x u cost value (OffCurve arc) on = passes on.0 (fails (arc.0, refl, on.1))
+pair_tests net x u cost value (WrongNumber stated right) on = passes on.0.conserved (passes on.0.on_curves (elim on.1 [
+  | inl wrong ↦ fails (stated, right, refl, wrong)
+  | inr wrong ↦ passes wrong.0 (fails (stated, right, refl, wrong.1))
+]))
+pair_tests net x u cost value Accepted on = passes on.0.conserved (passes on.0.on_curves (passes on.1 (passes on.2 refl)))
+pair_tests net x u cost value (OutOfCapacity arc) on = absurd on
+pair_tests net x u cost value (NotCircuit number) on = absurd on
+pair_tests net x u cost value (Endless arc) on = absurd on
+pair_tests net x u cost value NotNegative on = absurd on
+
+one_on_pair : (net : Network) (x u : List ℤ) (cost value : ℤ) → Unique (OnPair net x u cost value)
+one_on_pair net x u cost value v w a b =
+    one_of_tests _ _ _ (failing_test (λ k. NotConserved (record { 0 = k })) net.nodes (IsBalanced net x))
+    (one_of_tests _ _ _ (failing_test (λ k. OffCurve (record { 0 = k })) (length net.arcs) (IsPairOfCurve net x u))
+    (one_of_tests _ _ _ (number_test cost (total_cost 1 net («at» x)))
+    (one_of_tests _ _ _ (number_test value (total_value 1 net («at» u))) one_accepted)))
+    v w (pair_tests net x u cost value v a) (pair_tests net x u cost value w b)
+
+abbrev CutTests : Network → List Bool → ℤ → Judged → Type 0
+CutTests net side capacity =
+    OnTests (FindsNumber (λ k. Endless (record { 0 = k })) (IsFirstEndless (length net.arcs) (cut_end net side))) (CutCounts net side)
+    (AfterSum capacity (cut_sum net side))
+
+cut_tests : (net : Network) (side : List Bool) (capacity : ℤ) (v : Judged) → OnCut net side capacity v → CutTests net side capacity v
+cut_tests net side capacity (Endless arc) on = fails (arc.0, refl, on)
+cut_tests net side capacity (WrongNumber stated right) on = passes on.0 (fails (stated, right, refl, on.1))
+cut_tests net side capacity NotNegative on = passes on.0 (passes on.1 (fails (refl, on.2)))
+cut_tests net side capacity Accepted on = passes on.0.counts (passes on.1 (passes (rw on.1 on.0.negative) refl))
+cut_tests net side capacity (NotConserved node) on = absurd on
+cut_tests net side capacity (OffCurve arc) on = absurd on
+cut_tests net side capacity (OutOfCapacity arc) on = absurd on
+cut_tests net side capacity (NotCircuit number) on = absurd on
+
+one_on_cut : (net : Network) (side : List Bool) (capacity : ℤ) → Unique (OnCut net side capacity)
+one_on_cut net side capacity v w a b =
+    one_of_tests _ _ _ (endless_test (λ k. Endless (record { 0 = k })) (length net.arcs) (cut_end net side)) (one_after_sum capacity (cut_sum net side))
+    v w (cut_tests net side capacity v a) (cut_tests net side capacity w b)
+
+-- the ends of a walk's steps, one after the other
+each_step : (P : Step → Type 0) (walk : List Step) → Each P walk → AllPass (length walk) (λ k. P (step walk k))
+each_step P [] each k there = absurd (omega arith)
+each_step P (s ∷ walk) each zero there = each.0
+each_step P (s ∷ walk) each (suc k) there = each_step P walk each.1 k (omega arith)
+
+abbrev CircuitTests : Network → List ℤ → List Step → ℤ → Judged → Type 0
+CircuitTests net x walk span =
+    OnTests (FindsNumber (λ k. NotConserved (record { 0 = k })) (IsFirstFailing net.nodes (IsBalanced net x))) (AllPass net.nodes (IsBalanced net x))
+    (OnTests (FindsNumber (λ k. OutOfCapacity (record { 0 = k })) (IsFirstFailing (length net.arcs) (IsInCapacity net x))) (AllPass (length net.arcs) (IsInCapacity net x))
+    (OnTests (FindsNumber NotCircuit (IsFault net walk)) (IsCircuit net walk)
+    (OnTests (FindsNumber (λ k. Endless (step walk k).arc) (IsFirstEndless (length walk) (λ k. span_end net (step walk k)))) (AllPass (length walk) (λ k. IsFinite (span_end net (step walk k))))
+    (AfterSum span (span_sum net walk)))))
+
+-- flow and walk are right
+walked : (net : Network) (x : List ℤ) (walk : List Step) (span : ℤ) (v : Judged) → IsFeasibleFlow 1 net x → IsCircuit net walk
+    → OnTests (FindsNumber (λ k. Endless (step walk k).arc) (IsFirstEndless (length walk) (λ k. span_end net (step walk k)))) (AllPass (length walk) (λ k. IsFinite (span_end net (step walk k)))) (AfterSum span (span_sum net walk)) v
+    → CircuitTests net x walk span v
+walked net x walk span v flow round after = passes flow.conserved (passes flow.in_domains (passes round after))
+
+circuit_tests : (net : Network) (x : List ℤ) (walk : List Step) (span : ℤ) (v : Judged) → OnCircuit net x walk span v → CircuitTests net x walk span v
+circuit_tests net x walk span (NotConserved node) on = fails (node.0, refl, on)
+circuit_tests net x walk span (OutOfCapacity arc) on = passes on.0 (fails (arc.0, refl, on.1))
+circuit_tests net x walk span (NotCircuit number) on = passes on.0.conserved (passes on.0.in_domains (fails (number, refl, on.1)))
+circuit_tests net x walk span (Endless arc) on =
+    walked net x walk span (Endless arc) on.0 on.1 (fails (on.2.0, ap (λ (n : ℕ). Endless (record { 0 = n })) on.2.2, on.2.1))
+circuit_tests net x walk span (WrongNumber stated right) on =
+    walked net x walk span (WrongNumber stated right) on.0 on.1 (passes (each_step (λ s. IsFinite (span_end net s)) walk on.2) (fails (stated, right, refl, on.3)))
+circuit_tests net x walk span NotNegative on =
+    walked net x walk span NotNegative on.0 on.1 (passes (each_step (λ s. IsFinite (span_end net s)) walk on.2) (passes on.3 (fails (refl, on.4))))
+circuit_tests net x walk span Accepted on =
+    walked net x walk span Accepted on.0 on.1.circuit
+    (passes (each_step (λ s. IsFinite (span_end net s)) walk on.1.counts) (passes on.2 (passes (rw on.2 on.1.negative) refl)))
+circuit_tests net x walk span (OffCurve arc) on = absurd on
+
+one_on_circuit : (net : Network) (x : List ℤ) (walk : List Step) (span : ℤ) → Unique (OnCircuit net x walk span)
+one_on_circuit net x walk span v w a b =
+    one_of_tests _ _ _ (failing_test (λ k. NotConserved (record { 0 = k })) net.nodes (IsBalanced net x))
+    (one_of_tests _ _ _ (failing_test (λ k. OutOfCapacity (record { 0 = k })) (length net.arcs) (IsInCapacity net x))
+    (one_of_tests _ _ _ (circuit_test net walk)
+    (one_of_tests _ _ _ (endless_test (λ k. Endless (step walk k).arc) (length walk) (λ k. span_end net (step walk k))) (one_after_sum span (span_sum net walk)))))
+    v w (circuit_tests net x walk span v a) (circuit_tests net x walk span w b)
+
+pub one_verdict : OneVerdictLaw
+one_verdict net (optimal x u cost value) v w a b = one_on_pair net x u cost value v w a b
+one_verdict net (cut side capacity) v w a b = one_on_cut net side capacity v w a b
+one_verdict net (circuit x walk span) v w a b = one_on_circuit net x walk span v w a b
+
+-- ---- accepted
+
+accepted-valid : (net : Network) (c : Certificate) → Fits net c → IsVerdict net c Accepted → IsValid net c
+accepted-valid net (optimal x u cost value) fits on = record { fits = fits; shows = on.0; right = (on.1, on.2) }
+accepted-valid net (cut side capacity) fits on = record { fits = fits; shows = on.0; right = on.1 }
+accepted-valid net (circuit x walk span) fits on = record { fits = fits; shows = (on.0, on.1); right = on.2 }
+
+valid-accepted : (net : Network) (c : Certificate) → IsValid net c → IsVerdict net c Accepted
+valid-accepted net (optimal x u cost value) valid = (valid.shows, valid.right.0, valid.right.1)
+valid-accepted net (cut side capacity) valid = (valid.shows, valid.right)
+valid-accepted net (circuit x walk span) valid = (valid.shows.0, valid.shows.1, valid.right)
+
+pub accepted-is_valid : (net : Network) (c : Certificate) (v : Judged) → Fits net c → IsVerdict net c v → (v ≡ Accepted) ↔ IsValid net c
+accepted-is_valid net c v fits on =
+    (λ accepted. accepted-valid net c fits (subst (λ (w : Judged). IsVerdict net c w) accepted on),
+    λ valid. one_verdict net c v Accepted on (valid-accepted net c valid))
