@@ -1,7 +1,7 @@
 -- Passes over nodes and arcs, and their sums:
 pub mod Scans
 pub mod PartialSums
--- Circuits:
+-- Walks that fail:
 pub mod Walks
 -- Verdicts:
 pub mod Verdicts
