@@ -1,9 +1,8 @@
 -- A further term of a sum, and that its sums stay far from the largest numbers of 128 bits.
-use Rattle.std.proofs.Common.{◌≡◌, ℕ, suc, ◌+◌, ◌*◌, ◌^◌, ◌≤◌, ℤ, pos, ◌+ℤ◌, refl, arith, FitsSigned}
-use Rattle.std.specs.Int.{w128}
+use Rattle.std.proofs.Common.{◌≡◌, ℕ, suc, ◌+◌, ◌*◌, ℤ, pos, ◌+ℤ◌, refl, arith}
 use Rattle.std.proofs.lemmas.Int.{ints}
 use Rattle.theory.specs.Limits.{IsWithin}
-use Rattle.theory.proofs.Bounds.{within_sum, within_fits128}
+use Rattle.theory.proofs.Bounds.{within_sum}
 use Rattle.cert_check.specs.PartialSum.{IsPartialSum}
 
 pub partial-none : (term : ℕ → ℤ) (most : ℕ) → IsPartialSum term most 0 (pos 0)

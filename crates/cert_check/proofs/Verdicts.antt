@@ -3,7 +3,7 @@
 -- certificate is accepted. Each test finds at most one thing, and never where it passes. So two verdicts are of the same
 -- test, since else the earlier of their tests would both fail and pass, and then they say the same.
 -- A certificate is valid where every test passes. Then accepted is a verdict, and so the only one.
-use Rattle.std.proofs.Common.{◌≡◌, ◌≢◌, ◌↔◌, ℕ, zero, suc, ◌+◌, ◌<◌, ◌⊎◌, inl, inr, List, [], ◌∷◌, Bool, length, refl, sym, ap, ap₂, ◌∙◌, subst, ⊎_elim, ℤ, pos, ◌≤ℤ◌, ◌<ℤ◌, arith}
+use Rattle.std.proofs.Common.{◌≡◌, ◌↔◌, ℕ, zero, suc, ◌<◌, inl, inr, List, [], ◌∷◌, Bool, length, refl, sym, ap, ap₂, ◌∙◌, subst, ℤ, pos, ◌≤ℤ◌, ◌<ℤ◌, arith}
 use Rattle.std.proofs.lemmas.Int.{ints}
 use Rattle.std.proofs.lemmas.Bool.{false≢true}
 use Rattle.theory.specs.declared.ext.Ext.{Ext}
@@ -12,12 +12,11 @@ use Rattle.theory.specs.First.{IsFirstFailing}
 use Rattle.theory.specs.Sums.{Each}
 use Rattle.theory.specs.Ends.{IsFinite}
 use Rattle.theory.specs.Network.{Network, «at»}
-use Rattle.theory.specs.Conserved.{IsConserved}
 use Rattle.theory.specs.Feasible.{IsFeasibleFlow}
 use Rattle.theory.specs.Totals.{total_cost, total_value}
-use Rattle.theory.specs.Cut.{cut_end, cut_sum, CutCounts, IsNegativeCut}
-use Rattle.theory.specs.Circuit.{step, span_end, span_sum, SpanCounts, IsCircuit, IsNegativeCircuit}
-use Rattle.theory.specs.Certificate.{Certificate, Fits, IsOptimalPair, IsValid}
+use Rattle.theory.specs.Cut.{cut_end, cut_sum, CutCounts}
+use Rattle.theory.specs.Circuit.{step, span_end, span_sum, IsCircuit}
+use Rattle.theory.specs.Certificate.{Certificate, Fits, IsValid}
 use Rattle.theory.specs.Certificate.Certificate.{optimal, cut, circuit}
 use Rattle.theory.proofs.First.{one_first}
 use Rattle.net_incidence.specs.BadStep.{IsBadStep, IsFirstBadStep, IsFault}
@@ -247,6 +246,7 @@ valid-accepted net (cut side capacity) valid = (valid.shows, valid.right)
 valid-accepted net (circuit x walk span) valid = (valid.shows.0, valid.shows.1, valid.right)
 
 pub accepted-is_valid : (net : Network) (c : Certificate) (v : Judged) → Fits net c → IsVerdict net c v → (v ≡ Accepted) ↔ IsValid net c
-accepted-is_valid net c v fits on =
-    (λ accepted. accepted-valid net c fits (subst (λ (w : Judged). IsVerdict net c w) accepted on),
-    λ valid. one_verdict net c v Accepted on (valid-accepted net c valid))
+accepted-is_valid net c v fits on = (
+  λ accepted. accepted-valid net c fits (subst (λ (w : Judged). IsVerdict net c w) accepted on),
+  λ valid. one_verdict net c v Accepted on (valid-accepted net c valid),
+)

@@ -4,7 +4,7 @@ use Rattle.theory.specs.declared.network.Step.{Step}
 use Rattle.theory.specs.CurveList.{Listing}
 use Rattle.theory.specs.Network.{Network}
 use Rattle.net_incidence.specs.Graph.{Graph, network, bare}
-use Rattle.net_incidence.specs.BadStep.{IsClosed, IsFirstBadStep, IsNotClosed, IsFault}
+use Rattle.net_incidence.specs.BadStep.{IsClosed, IsFault}
 
 closed_without : (graph : Graph) (curves : List Listing) (walk : List Step) → IsClosed (network graph curves) walk → IsClosed (bare graph) walk
 closed_without graph curves walk closed = record { not_empty = closed.not_empty; closed = closed.closed }

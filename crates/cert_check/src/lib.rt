@@ -10,3 +10,6 @@ mod verdict_laws;
 pub use judged::Judged;
 pub use kinds::verdict;
 pub use verdict_laws::one_verdict;
+
+#[cfg(test)]
+mod tests;

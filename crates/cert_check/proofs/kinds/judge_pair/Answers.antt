@@ -19,8 +19,7 @@ returns-then-value-right c =
     let cost_is : c.args.cost ≡ c.total_cost-right.result = search rules in
     let wrong : c.args.value ≢ c.total_value-right.result = λ e. c.if-value-right.true (ap (of_z w128) e) in
     let stated_fits : SFits w128 c.args.value = search rules in
-    let right_fits : SFits w128 c.total_value-right.result = search rules in
-    (
+    let right_fits : SFits w128 c.total_value-right.result = search rules in (
       record { conserved = c.in_default.ensures.none; on_curves = c.in_default-first_off_curve.ensures.none },
       inr (
         cost_is ∙ c.total_cost-right.ensures,

@@ -1,7 +1,6 @@
-use Rattle.std.proofs.Common.{◌≡◌, ℕ, ◌+◌, ◌*◌, ◌^◌, ◌≤◌, length, ap, ◌∙◌, rules, arith, ℤ, ◌+ℤ◌, SFits, to_z-of_z}
+use Rattle.std.proofs.Common.{◌≡◌, ℕ, ◌+◌, ◌^◌, ◌≤◌, length, ap, rules, arith, ℤ, ◌+ℤ◌, SFits, to_z-of_z}
 use mir.Syntax.{w64, w128}
 use Rattle.std.proofs.lemmas.Int.{ints}
-use Rattle.theory.specs.CurveList.{Listing}
 use Rattle.theory.specs.Cost.{cost}
 use Rattle.theory.specs.Network.{Network, «at», curve}
 use Rattle.cert_check.specs.PartialSum.{IsPartialSum}

@@ -1,6 +1,5 @@
-use Rattle.std.proofs.Common.{◌≡◌, refl, rules, SFits, to_z-of_z}
+use Rattle.std.proofs.Common.{refl, rules, SFits, to_z-of_z}
 use mir.Syntax.{w64}
-use Rattle.theory.specs.Ends.{IsBetween}
 use Rattle.theory.specs.Network.{«at»}
 use Rattle.cert_check.specs.Verdict.{IsInCapacity}
 use Rattle.cert_check.proofs.Scans.{passes-further}
