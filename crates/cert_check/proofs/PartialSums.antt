@@ -1,12 +1,8 @@
--- A further term of a sum, and that its sums stay far from the largest numbers of 128 bits.
-use Rattle.std.proofs.Common.{◌≡◌, ℕ, suc, ◌+◌, ◌*◌, ℤ, pos, ◌+ℤ◌, refl, arith}
-use Rattle.std.proofs.lemmas.Int.{ints}
+-- A further term of a sum.
+use Rattle.std.proofs.Common.{◌≡◌, ℕ, suc, ◌+◌, ◌*◌, ℤ, ◌+ℤ◌, refl, arith}
 use Rattle.theory.specs.Limits.{IsWithin}
 use Rattle.theory.proofs.Bounds.{within_sum}
 use Rattle.cert_check.specs.PartialSum.{IsPartialSum}
-
-pub partial-none : (term : ℕ → ℤ) (most : ℕ) → IsPartialSum term most 0 (pos 0)
-partial-none term most = record { is = refl; within = (omega (arith, ints), omega (arith, ints)) }
 
 pub partial-further : (term : ℕ → ℤ) (most n : ℕ) (sum z : ℤ) → IsPartialSum term most n sum → z ≡ term n → IsWithin most z
     → IsPartialSum term most (n + 1) (sum +ℤ z)

@@ -14,8 +14,8 @@ use Rattle.theory.specs.Ends.{IsFinite}
 use Rattle.theory.specs.Network.{Network, «at»}
 use Rattle.theory.specs.Feasible.{IsFeasibleFlow}
 use Rattle.theory.specs.Totals.{total_cost, total_value}
-use Rattle.theory.specs.Cut.{cut_end, cut_sum, CutCounts}
-use Rattle.theory.specs.Circuit.{step, span_end, span_sum, IsCircuit}
+use Rattle.theory.specs.Cut.{cut_end, cut_sum}
+use Rattle.theory.specs.Circuit.{step, span_end, span_sum, SpanCounts, IsCircuit}
 use Rattle.theory.specs.Certificate.{Certificate, Fits, IsValid}
 use Rattle.theory.specs.Certificate.Certificate.{optimal, cut, circuit}
 use Rattle.theory.proofs.First.{one_first}
@@ -50,50 +50,48 @@ one_of_tests Finds Passes After test after v w (fails f) (passes p a) = absurd (
 one_of_tests Finds Passes After test after v w (passes p a) (fails g) = absurd (test.not_both w g p)
 one_of_tests Finds Passes After test after v w (passes p a) (passes q b) = after v w a b
 
+-- the end of a row
 abbrev IsAccepted : Judged → Type 0
 IsAccepted v = v ≡ Accepted
 
 one_accepted : Unique IsAccepted
 one_accepted v w a b = a ∙ sym b
 
--- ---- a test that finds the first of many
+-- ---- tests that find a number
 
 -- number k is found, and this is its verdict
 abbrev FindsNumber : (ℕ → Judged) → (ℕ → Type 0) → Judged → Type 0
 FindsNumber verdict IsFound v = (k : ℕ) × (v ≡ verdict k) × IsFound k
 
-first_test : (verdict : ℕ → Judged) (IsFound : ℕ → Type 0) (Passes : Type 0) → ((j k : ℕ) → IsFound j → IsFound k → j ≡ k)
+number_test : (verdict : ℕ → Judged) (IsFound : ℕ → Type 0) (Passes : Type 0) → ((j k : ℕ) → IsFound j → IsFound k → j ≡ k)
     → ((k : ℕ) → IsFound k → Passes → ⊥) → IsTest (FindsNumber verdict IsFound) Passes
-first_test verdict IsFound Passes one not_both = record {
+number_test verdict IsFound Passes one not_both = record {
   once = λ v w f g. f.1 ∙ ap verdict (one f.0 g.0 f.2 g.2) ∙ sym g.1;
   not_both = λ v f passes. not_both f.0 f.2 passes;
 }
 
+-- the first of n things that fails
 abbrev AllPass : ℕ → (ℕ → Type 0) → Type 0
 AllPass n Passes = (k : ℕ) → k < n → Passes k
 
-failing_test : (verdict : ℕ → Judged) (n : ℕ) (Passes : ℕ → Type 0) → IsTest (FindsNumber verdict (IsFirstFailing n Passes)) (AllPass n Passes)
-failing_test verdict n Passes =
-    first_test verdict (IsFirstFailing n Passes) (AllPass n Passes) (one_first n Passes) (λ k first all. first.fails (all k first.there))
+abbrev OnEach : (ℕ → Judged) → ℕ → (ℕ → Type 0) → (Judged → Type 0) → Judged → Type 0
+OnEach verdict n Passes After = OnTests (FindsNumber verdict (IsFirstFailing n Passes)) (AllPass n Passes) After
+
+one_on_each : (verdict : ℕ → Judged) (n : ℕ) (Passes : ℕ → Type 0) (After : Judged → Type 0) → Unique After → Unique (OnEach verdict n Passes After)
+one_on_each verdict n Passes After =
+    one_of_tests (FindsNumber verdict (IsFirstFailing n Passes)) (AllPass n Passes) After
+    (number_test verdict (IsFirstFailing n Passes) (AllPass n Passes) (one_first n Passes) (λ k first all. first.fails (all k first.there)))
 
 endless-failing : (n : ℕ) (end : ℕ → Ext) (k : ℕ) → IsFirstEndless n end k → IsFirstFailing n (λ j. IsFinite (end j)) k
 endless-failing n end k first = record { there = first.there; fails = λ finite. false≢true (sym first.endless ∙ finite); before = first.before }
 
-endless_test : (verdict : ℕ → Judged) (n : ℕ) (end : ℕ → Ext) → IsTest (FindsNumber verdict (IsFirstEndless n end)) (AllPass n (λ j. IsFinite (end j)))
-endless_test verdict n end =
-    first_test verdict (IsFirstEndless n end) (AllPass n (λ j. IsFinite (end j)))
-    (λ j k f g. one_first n (λ j. IsFinite (end j)) j k (endless-failing n end j f) (endless-failing n end k g))
-    (λ k first all. (endless-failing n end k first).fails (all k first.there))
-
--- ---- the first bad step, or none and the walk isn't closed
-
-fault-failing : (net : Network) (walk : List Step) (k : ℕ) → IsFirstBadStep net walk k
-    → IsFirstFailing (length walk) (λ j. IsBadStep net walk j → ⊥) k
+-- the first bad step, or no step is bad and the walk isn't closed
+fault-failing : (net : Network) (walk : List Step) (k : ℕ) → IsFirstBadStep net walk k → IsFirstFailing (length walk) (λ j. ¬ IsBadStep net walk j) k
 fault-failing net walk k first = record { there = first.there; fails = λ good. good first.bad; before = first.before }
 
 one_fault : (net : Network) (walk : List Step) (m n : ℕ) → IsFault net walk m → IsFault net walk n → m ≡ n
 one_fault net walk m n (inl f) (inl g) =
-    let same = one_first (length walk) (λ j. IsBadStep net walk j → ⊥) f.0 g.0 (fault-failing net walk f.0 f.2) (fault-failing net walk g.0 g.2) in
+    let same = one_first (length walk) (λ j. ¬ IsBadStep net walk j) f.0 g.0 (fault-failing net walk f.0 f.2) (fault-failing net walk g.0 g.2) in
     omega (arith, f.1, g.1)
 one_fault net walk m n (inl f) (inr g) = absurd (g.1.before f.0 f.2.there f.2.bad)
 one_fault net walk m n (inr f) (inl g) = absurd (f.1.before g.0 g.2.there g.2.bad)
@@ -103,46 +101,60 @@ fault-no_circuit : (net : Network) (walk : List Step) (n : ℕ) → IsFault net 
 fault-no_circuit net walk n (inl f) round = circuit-no_bad net walk f.0 round f.2.there f.2.bad
 fault-no_circuit net walk n (inr f) round = f.1.not_closed (circuit-closed net walk round)
 
-circuit_test : (net : Network) (walk : List Step) → IsTest (FindsNumber NotCircuit (IsFault net walk)) (IsCircuit net walk)
-circuit_test net walk = first_test NotCircuit (IsFault net walk) (IsCircuit net walk) (one_fault net walk) (fault-no_circuit net walk)
-
--- ---- numbers
+-- ---- tests of the stated numbers
 
 abbrev FindsWrong : ℤ → ℤ → Judged → Type 0
 FindsWrong number due v = (stated : ℤ) × (right : ℤ) × (v ≡ WrongNumber stated right) × IsWrong number due stated right
 
-number_test : (number due : ℤ) → IsTest (FindsWrong number due) (number ≡ due)
-number_test number due = record {
+abbrev OnNumber : ℤ → ℤ → (Judged → Type 0) → Judged → Type 0
+OnNumber number due After = OnTests (FindsWrong number due) (number ≡ due) After
+
+one_on_number : (number due : ℤ) (After : Judged → Type 0) → Unique After → Unique (OnNumber number due After)
+one_on_number number due After = one_of_tests (FindsWrong number due) (number ≡ due) After (record {
   once = λ v w f g.
       f.2 ∙ ap₂ WrongNumber (f.3.stated_is ∙ sym g.3.stated_is) (f.3.right_is ∙ sym g.3.right_is) ∙ sym g.2;
   not_both = λ v f right. f.3.wrong right;
-}
+})
 
-abbrev FindsNotNegative : ℤ → Judged → Type 0
-FindsNotNegative number v = (v ≡ NotNegative) × (pos 0 ≤ℤ number)
+abbrev OnSign : ℤ → Judged → Type 0
+OnSign number = OnTests (λ v. (v ≡ NotNegative) × (pos 0 ≤ℤ number)) (number <ℤ pos 0) IsAccepted
 
-sign_test : (number : ℤ) → IsTest (FindsNotNegative number) (number <ℤ pos 0)
-sign_test number = record {
-  once = λ v w f g. f.0 ∙ sym g.0;
-  not_both = λ v f negative. (let least = f.1 in absurd (omega (arith, ints)));
-}
+one_on_sign : (number : ℤ) → Unique (OnSign number)
+one_on_sign number = one_of_tests (λ v. (v ≡ NotNegative) × (pos 0 ≤ℤ number)) (number <ℤ pos 0) IsAccepted
+    (record {
+      once = λ v w f g. f.0 ∙ sym g.0;
+      not_both = λ v f negative. (let least = f.1 in absurd (omega (arith, ints)));
+    })
+    one_accepted
 
--- ---- the verdicts on each kind are those of its tests
+-- ---- the tests of each kind
 
-abbrev AfterSum : ℤ → ℤ → Judged → Type 0
-AfterSum number due = OnTests (FindsWrong number due) (number ≡ due) (OnTests (FindsNotNegative number) (number <ℤ pos 0) IsAccepted)
+abbrev not_conserved : ℕ → Judged
+not_conserved k = NotConserved (record { 0 = k })
 
-one_after_sum : (number due : ℤ) → Unique (AfterSum number due)
-one_after_sum number due =
-    one_of_tests (FindsWrong number due) (number ≡ due) (OnTests (FindsNotNegative number) (number <ℤ pos 0) IsAccepted) (number_test number due)
-    (one_of_tests (FindsNotNegative number) (number <ℤ pos 0) IsAccepted (sign_test number) one_accepted)
+abbrev off_curve : ℕ → Judged
+off_curve k = OffCurve (record { 0 = k })
 
+abbrev out_of_capacity : ℕ → Judged
+out_of_capacity k = OutOfCapacity (record { 0 = k })
+
+abbrev endless : ℕ → Judged
+endless k = Endless (record { 0 = k })
+
+-- flow with potential
 abbrev PairTests : Network → List ℤ → List ℤ → ℤ → ℤ → Judged → Type 0
 PairTests net x u cost value =
-    OnTests (FindsNumber (λ k. NotConserved (record { 0 = k })) (IsFirstFailing net.nodes (IsBalanced net x))) (AllPass net.nodes (IsBalanced net x))
-    (OnTests (FindsNumber (λ k. OffCurve (record { 0 = k })) (IsFirstFailing (length net.arcs) (IsPairOfCurve net x u))) (AllPass (length net.arcs) (IsPairOfCurve net x u))
-    (OnTests (FindsWrong cost (total_cost 1 net («at» x))) (cost ≡ total_cost 1 net («at» x))
-    (OnTests (FindsWrong value (total_value 1 net («at» u))) (value ≡ total_value 1 net («at» u)) IsAccepted)))
+    OnEach not_conserved net.nodes (IsBalanced net x)
+    (OnEach off_curve (length net.arcs) (IsPairOfCurve net x u)
+    (OnNumber cost (total_cost 1 net («at» x))
+    (OnNumber value (total_value 1 net («at» u)) IsAccepted)))
+
+one_of_pair : (net : Network) (x u : List ℤ) (cost value : ℤ) → Unique (PairTests net x u cost value)
+one_of_pair net x u cost value =
+    one_on_each not_conserved net.nodes (IsBalanced net x) _
+    (one_on_each off_curve (length net.arcs) (IsPairOfCurve net x u) _
+    (one_on_number cost (total_cost 1 net («at» x)) _
+    (one_on_number value (total_value 1 net («at» u)) IsAccepted one_accepted)))
 
 pair_tests : (net : Network) (x u : List ℤ) (cost value : ℤ) (v : Judged) → OnPair net x u cost value v → PairTests net x u cost value v
 pair_tests net x u cost value (NotConserved node) on = fails (node.0, refl, on)
@@ -157,21 +169,19 @@ pair_tests net x u cost value (NotCircuit number) on = absurd on
 pair_tests net x u cost value (Endless arc) on = absurd on
 pair_tests net x u cost value NotNegative on = absurd on
 
-one_on_pair : (net : Network) (x u : List ℤ) (cost value : ℤ) → Unique (OnPair net x u cost value)
-one_on_pair net x u cost value v w a b =
-    one_of_tests _ _ _ (failing_test (λ k. NotConserved (record { 0 = k })) net.nodes (IsBalanced net x))
-    (one_of_tests _ _ _ (failing_test (λ k. OffCurve (record { 0 = k })) (length net.arcs) (IsPairOfCurve net x u))
-    (one_of_tests _ _ _ (number_test cost (total_cost 1 net («at» x)))
-    (one_of_tests _ _ _ (number_test value (total_value 1 net («at» u))) one_accepted)))
-    v w (pair_tests net x u cost value v a) (pair_tests net x u cost value w b)
-
+-- a set of nodes
 abbrev CutTests : Network → List Bool → ℤ → Judged → Type 0
 CutTests net side capacity =
-    OnTests (FindsNumber (λ k. Endless (record { 0 = k })) (IsFirstEndless (length net.arcs) (cut_end net side))) (CutCounts net side)
-    (AfterSum capacity (cut_sum net side))
+    OnEach endless (length net.arcs) (λ j. IsFinite (cut_end net side j))
+    (OnNumber capacity (cut_sum net side) (OnSign capacity))
+
+one_of_cut : (net : Network) (side : List Bool) (capacity : ℤ) → Unique (CutTests net side capacity)
+one_of_cut net side capacity =
+    one_on_each endless (length net.arcs) (λ j. IsFinite (cut_end net side j)) _
+    (one_on_number capacity (cut_sum net side) (OnSign capacity) (one_on_sign capacity))
 
 cut_tests : (net : Network) (side : List Bool) (capacity : ℤ) (v : Judged) → OnCut net side capacity v → CutTests net side capacity v
-cut_tests net side capacity (Endless arc) on = fails (arc.0, refl, on)
+cut_tests net side capacity (Endless arc) on = fails (arc.0, refl, endless-failing (length net.arcs) (cut_end net side) arc.0 on)
 cut_tests net side capacity (WrongNumber stated right) on = passes on.0 (fails (stated, right, refl, on.1))
 cut_tests net side capacity NotNegative on = passes on.0 (passes on.1 (fails (refl, on.2)))
 cut_tests net side capacity Accepted on = passes on.0.counts (passes on.1 (passes (rw on.1 on.0.negative) refl))
@@ -180,58 +190,62 @@ cut_tests net side capacity (OffCurve arc) on = absurd on
 cut_tests net side capacity (OutOfCapacity arc) on = absurd on
 cut_tests net side capacity (NotCircuit number) on = absurd on
 
-one_on_cut : (net : Network) (side : List Bool) (capacity : ℤ) → Unique (OnCut net side capacity)
-one_on_cut net side capacity v w a b =
-    one_of_tests _ _ _ (endless_test (λ k. Endless (record { 0 = k })) (length net.arcs) (cut_end net side)) (one_after_sum capacity (cut_sum net side))
-    v w (cut_tests net side capacity v a) (cut_tests net side capacity w b)
+-- flow with walk: first the span's, then all
+abbrev SpanTests : Network → List Step → ℤ → Judged → Type 0
+SpanTests net walk span =
+    OnEach (λ k. Endless (step walk k).arc) (length walk) (λ k. IsFinite (span_end net (step walk k)))
+    (OnNumber span (span_sum net walk) (OnSign span))
 
--- the ends of a walk's steps, one after the other
+abbrev CircuitTests : Network → List ℤ → List Step → ℤ → Judged → Type 0
+CircuitTests net x walk span =
+    OnEach not_conserved net.nodes (IsBalanced net x)
+    (OnEach out_of_capacity (length net.arcs) (IsInCapacity net x)
+    (OnTests (FindsNumber NotCircuit (IsFault net walk)) (IsCircuit net walk)
+    (SpanTests net walk span)))
+
+one_of_circuit : (net : Network) (x : List ℤ) (walk : List Step) (span : ℤ) → Unique (CircuitTests net x walk span)
+one_of_circuit net x walk span =
+    one_on_each not_conserved net.nodes (IsBalanced net x) _
+    (one_on_each out_of_capacity (length net.arcs) (IsInCapacity net x) _
+    (one_of_tests (FindsNumber NotCircuit (IsFault net walk)) (IsCircuit net walk) (SpanTests net walk span)
+    (number_test NotCircuit (IsFault net walk) (IsCircuit net walk) (one_fault net walk) (fault-no_circuit net walk))
+    (one_on_each (λ k. Endless (step walk k).arc) (length walk) (λ k. IsFinite (span_end net (step walk k))) _
+    (one_on_number span (span_sum net walk) (OnSign span) (one_on_sign span)))))
+
+after_walk : (net : Network) (x : List ℤ) (walk : List Step) (span : ℤ) (v : Judged) → IsFeasibleFlow 1 net x → IsCircuit net walk
+    → SpanTests net walk span v → CircuitTests net x walk span v
+after_walk net x walk span v flow round after = passes flow.conserved (passes flow.in_domains (passes round after))
+
 each_step : (P : Step → Type 0) (walk : List Step) → Each P walk → AllPass (length walk) (λ k. P (step walk k))
 each_step P [] each k there = absurd (omega arith)
 each_step P (s ∷ walk) each zero there = each.0
 each_step P (s ∷ walk) each (suc k) there = each_step P walk each.1 k (omega arith)
 
-abbrev CircuitTests : Network → List ℤ → List Step → ℤ → Judged → Type 0
-CircuitTests net x walk span =
-    OnTests (FindsNumber (λ k. NotConserved (record { 0 = k })) (IsFirstFailing net.nodes (IsBalanced net x))) (AllPass net.nodes (IsBalanced net x))
-    (OnTests (FindsNumber (λ k. OutOfCapacity (record { 0 = k })) (IsFirstFailing (length net.arcs) (IsInCapacity net x))) (AllPass (length net.arcs) (IsInCapacity net x))
-    (OnTests (FindsNumber NotCircuit (IsFault net walk)) (IsCircuit net walk)
-    (OnTests (FindsNumber (λ k. Endless (step walk k).arc) (IsFirstEndless (length walk) (λ k. span_end net (step walk k)))) (AllPass (length walk) (λ k. IsFinite (span_end net (step walk k))))
-    (AfterSum span (span_sum net walk)))))
-
--- flow and walk are right
-walked : (net : Network) (x : List ℤ) (walk : List Step) (span : ℤ) (v : Judged) → IsFeasibleFlow 1 net x → IsCircuit net walk
-    → OnTests (FindsNumber (λ k. Endless (step walk k).arc) (IsFirstEndless (length walk) (λ k. span_end net (step walk k)))) (AllPass (length walk) (λ k. IsFinite (span_end net (step walk k)))) (AfterSum span (span_sum net walk)) v
-    → CircuitTests net x walk span v
-walked net x walk span v flow round after = passes flow.conserved (passes flow.in_domains (passes round after))
+finite_ends : (net : Network) (walk : List Step) → SpanCounts net walk → AllPass (length walk) (λ k. IsFinite (span_end net (step walk k)))
+finite_ends net walk counts = each_step (λ s. IsFinite (span_end net s)) walk counts
 
 circuit_tests : (net : Network) (x : List ℤ) (walk : List Step) (span : ℤ) (v : Judged) → OnCircuit net x walk span v → CircuitTests net x walk span v
 circuit_tests net x walk span (NotConserved node) on = fails (node.0, refl, on)
 circuit_tests net x walk span (OutOfCapacity arc) on = passes on.0 (fails (arc.0, refl, on.1))
 circuit_tests net x walk span (NotCircuit number) on = passes on.0.conserved (passes on.0.in_domains (fails (number, refl, on.1)))
 circuit_tests net x walk span (Endless arc) on =
-    walked net x walk span (Endless arc) on.0 on.1 (fails (on.2.0, ap (λ (n : ℕ). Endless (record { 0 = n })) on.2.2, on.2.1))
+    after_walk net x walk span (Endless arc) on.0 on.1
+    (fails (on.2.0, ap endless on.2.2, endless-failing (length walk) (λ k. span_end net (step walk k)) on.2.0 on.2.1))
 circuit_tests net x walk span (WrongNumber stated right) on =
-    walked net x walk span (WrongNumber stated right) on.0 on.1 (passes (each_step (λ s. IsFinite (span_end net s)) walk on.2) (fails (stated, right, refl, on.3)))
+    after_walk net x walk span (WrongNumber stated right) on.0 on.1 (passes (finite_ends net walk on.2) (fails (stated, right, refl, on.3)))
 circuit_tests net x walk span NotNegative on =
-    walked net x walk span NotNegative on.0 on.1 (passes (each_step (λ s. IsFinite (span_end net s)) walk on.2) (passes on.3 (fails (refl, on.4))))
+    after_walk net x walk span NotNegative on.0 on.1 (passes (finite_ends net walk on.2) (passes on.3 (fails (refl, on.4))))
 circuit_tests net x walk span Accepted on =
-    walked net x walk span Accepted on.0 on.1.circuit
-    (passes (each_step (λ s. IsFinite (span_end net s)) walk on.1.counts) (passes on.2 (passes (rw on.2 on.1.negative) refl)))
+    after_walk net x walk span Accepted on.0 on.1.circuit
+    (passes (finite_ends net walk on.1.counts) (passes on.2 (passes (rw on.2 on.1.negative) refl)))
 circuit_tests net x walk span (OffCurve arc) on = absurd on
 
-one_on_circuit : (net : Network) (x : List ℤ) (walk : List Step) (span : ℤ) → Unique (OnCircuit net x walk span)
-one_on_circuit net x walk span v w a b =
-    one_of_tests _ _ _ (failing_test (λ k. NotConserved (record { 0 = k })) net.nodes (IsBalanced net x))
-    (one_of_tests _ _ _ (failing_test (λ k. OutOfCapacity (record { 0 = k })) (length net.arcs) (IsInCapacity net x))
-    (one_of_tests _ _ _ (circuit_test net walk)
-    (one_of_tests _ _ _ (endless_test (λ k. Endless (step walk k).arc) (length walk) (λ k. span_end net (step walk k))) (one_after_sum span (span_sum net walk)))))
-    v w (circuit_tests net x walk span v a) (circuit_tests net x walk span w b)
-
 pub one_verdict : OneVerdictLaw
-one_verdict net (optimal x u cost value) v w a b = one_on_pair net x u cost value v w a b
-one_verdict net (cut side capacity) v w a b = one_on_cut net side capacity v w a b
-one_verdict net (circuit x walk span) v w a b = one_on_circuit net x walk span v w a b
+one_verdict net (optimal x u cost value) v w a b =
+    one_of_pair net x u cost value v w (pair_tests net x u cost value v a) (pair_tests net x u cost value w b)
+one_verdict net (cut side capacity) v w a b = one_of_cut net side capacity v w (cut_tests net side capacity v a) (cut_tests net side capacity w b)
+one_verdict net (circuit x walk span) v w a b =
+    one_of_circuit net x walk span v w (circuit_tests net x walk span v a) (circuit_tests net x walk span w b)
 
 -- ---- accepted
 

@@ -39,7 +39,7 @@ fn rows(rt: HostRuntime) -> Result<(), Fail> {
             b"certificate 1 optimal\ncost 13\nvalue 13\nnode s 0 5\nnode t 5 -5\narc a 5\n".as_slice(),
             Judged::Accepted,
         ),
-        // The ground comes first, though what it gives away is missing at t too.
+        // The unit that the ground gives stays at t: both are unbalanced, and the ground comes first.
         (
             ORDINARY,
             b"certificate 1 optimal\ncost 13\nvalue 13\nnode s 0 5\nnode t 5 -4\narc a 5\n",
