@@ -5,6 +5,7 @@ mod judged;
 mod kinds;
 mod pricing;
 mod scan;
+mod tensions;
 mod verdict_laws;
 
 pub use judged::Judged;

@@ -4,6 +4,7 @@ ghost use Rattle.theory.specs.First.{IsFirstFailing};
 ghost use Rattle.theory.specs.Certificate.{AreNumbers, IsPotentialOf};
 ghost use Rattle.cert_check.specs.Verdict.{IsBalanced, IsPairOfCurve, IsInCapacity};
 
+use crate::tensions::tension_on;
 use ground_net::Grounded;
 use mono_curve::{domain_of, on_curve};
 use net_incidence::{ArcId, NodeId};
@@ -32,7 +33,7 @@ pub(crate) fn first_off_curve(g: &Grounded, x: &[i64], u: &[i64]) -> Option<ArcI
 {
     for j in 0..g.net().arcs() as u32 {
         let arc = ArcId(j);
-        if !on_curve(g.curve(arc), x[j as usize], g.net().tension(u, arc)) {
+        if !on_curve(g.curve(arc), x[j as usize], tension_on(g, u, arc)) {
             return Some(arc);
         }
     }

@@ -1,4 +1,4 @@
-use Rattle.std.proofs.Common.{◌≡◌, ℕ, ◌+◌, ◌*◌, ◌^◌, ◌≤◌, ◌<◌, length, ap, ◌∙◌, rules, arith, ℤ, neg_ℤ, ◌+ℤ◌, ◌-ℤ◌, SFits, to_z-of_z}
+use Rattle.std.proofs.Common.{◌≡◌, ℕ, ◌+◌, ◌*◌, ◌^◌, ◌≤◌, ◌<◌, length, ap, rules, arith, ℤ, neg_ℤ, ◌+ℤ◌, ◌-ℤ◌, SFits, to_z-of_z}
 use mir.Syntax.{w64, w128}
 use Rattle.std.proofs.lemmas.Int.{ints}
 use Rattle.theory.specs.ConjugateCost.{conjugate_cost}
@@ -6,39 +6,16 @@ use Rattle.theory.specs.Network.{Network, «at», curve}
 use Rattle.theory.specs.Conserved.{tension}
 use Rattle.cert_check.specs.PartialSum.{IsPartialSum}
 use Rattle.cert_check.proofs.PartialSums.{partial-further}
-use Rattle.cert_check.proofs.Scans.{tension_of_net, tension-within}
 use Rattle.cert_check.proofs.pricing.total_value.Goals as goal
-
-pub dual_at-total-requires-clause-inside : goal.dual_at-total-requires-clause-inside
-dual_at-total-requires-clause-inside c =
-    let net = c.args.g.now.network in
-    let fits : SFits w64 c.tension.result = search rules in
-    let of_arc : c.tension.result ≡ tension net («at» c.args.u.now) c.loop-j.j =
-    c.tension.ensures ∙ tension_of_net c.net-in-loop-j.result.now net c.args.u.now c.loop-j.j c.net-in-loop-j.ensures in
-    let count : length c.net.result.now.arcs ≡ length net.arcs = ap (λ (n : Network). length n.arcs) c.net.ensures in
-    let there : c.loop-j.j < length net.arcs = omega (arith, c.arcs-j-end.ensures, c.loop-j-test.true) in
-    rw (to_z-of_z fits, c.curve.ensures, of_arc) (c.requires.inside c.loop-j.j there)
-
-pub dual_at-total-requires-clause-tension_within : goal.dual_at-total-requires-clause-tension_within
-dual_at-total-requires-clause-tension_within c =
-    let net = c.args.g.now.network in
-    let fits : SFits w64 c.tension.result = search rules in
-    let of_arc : c.tension.result ≡ tension net («at» c.args.u.now) c.loop-j.j =
-    c.tension.ensures ∙ tension_of_net c.net-in-loop-j.result.now net c.args.u.now c.loop-j.j c.net-in-loop-j.ensures in
-    let count : length c.net.result.now.arcs ≡ length net.arcs = ap (λ (n : Network). length n.arcs) c.net.ensures in
-    let there : c.loop-j.j < length net.arcs = omega (arith, c.arcs-j-end.ensures, c.loop-j-test.true) in
-    rw (to_z-of_z fits, of_arc) (tension-within net c.args.u.now c.loop-j.j c.args.g.now.good.is_network c.requires.potentials.numbers there)
 
 pub loop-j-preserved : goal.loop-j-preserved
 loop-j-preserved c =
     let net = c.args.g.now.network in
     let term : ℕ → ℤ = λ j. conjugate_cost 1 (curve net j) (tension net («at» c.args.u.now) j) in
-    let tension_fits : SFits w64 c.tension.result = search rules in
+    let tension_fits : SFits w64 c.tension_on.result = search rules in
     let dual_fits : SFits w128 c.dual_at-total.result = search rules in
-    let of_arc : c.tension.result ≡ tension net («at» c.args.u.now) c.loop-j.j =
-    c.tension.ensures ∙ tension_of_net c.net-in-loop-j.result.now net c.args.u.now c.loop-j.j c.net-in-loop-j.ensures in
     let is : c.dual_at-total.result ≡ term c.loop-j.j =
-    rw (to_z-of_z tension_fits, c.curve.ensures, of_arc) at c.dual_at-total.ensures.value in
+    rw (to_z-of_z tension_fits, c.curve.ensures, c.tension_on.ensures.value) at c.dual_at-total.ensures.value in
     let so_far : IsPartialSum term (2 * 10 ^ 28) c.loop-j.j (neg_ℤ c.loop-j.total) = rw c.loop-j.total-is at c.loop-j.invariant in
     let further = partial-further term (2 * 10 ^ 28) c.loop-j.j (neg_ℤ c.loop-j.total) c.dual_at-total.result so_far is c.dual_at-total.ensures.within in
     let low = further.within.0 in
