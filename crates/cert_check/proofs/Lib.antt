@@ -1,7 +1,7 @@
--- Passes over nodes and arcs, and their sums:
+-- What a net says of its network:
+pub mod Nets
+-- Scans of nodes and arcs, and their sums:
 pub mod Scans
 pub mod PartialSums
--- Walks that fail:
-pub mod Walks
 -- Verdicts:
 pub mod Verdicts

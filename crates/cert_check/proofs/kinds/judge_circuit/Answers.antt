@@ -1,4 +1,4 @@
-use Rattle.cert_check.proofs.Walks.{fault_of_net}
+use Rattle.cert_check.proofs.Nets.{fault_of_net}
 use Rattle.cert_check.proofs.kinds.judge_circuit.Goals as goal
 
 pub returns-in-Some-is_circuit : goal.returns-in-Some-is_circuit

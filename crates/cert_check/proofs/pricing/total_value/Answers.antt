@@ -1,4 +1,4 @@
-use Rattle.std.proofs.Common.{◌≡◌, ℕ, ◌+◌, ◌*◌, ◌^◌, ◌≤◌, ◌<◌, length, ap, rules, arith, ℤ, neg_ℤ, ◌+ℤ◌, ◌-ℤ◌, SFits, to_z-of_z}
+use Rattle.std.proofs.Common.{◌≡◌, ℕ, ◌+◌, ◌*◌, ◌^◌, ◌≤◌, length, ap, rules, arith, ℤ, neg_ℤ, ◌+ℤ◌, ◌-ℤ◌, SFits, to_z-of_z}
 use mir.Syntax.{w64, w128}
 use Rattle.std.proofs.lemmas.Int.{ints}
 use Rattle.theory.specs.ConjugateCost.{conjugate_cost}

@@ -1,6 +1,7 @@
 use Rattle.std.proofs.Common.{◌≡◌, pos, sym, ◌∙◌, rules}
 use Rattle.cert_check.specs.Verdict.{IsBalanced}
-use Rattle.cert_check.proofs.Scans.{passes-further, balanced_by_divergence}
+use Rattle.cert_check.proofs.Nets.{balanced_by_divergence}
+use Rattle.cert_check.proofs.Scans.{passes-further}
 use Rattle.cert_check.proofs.scan.first_unbalanced.Goals as goal
 
 pub loop-i-preserved : goal.loop-i-preserved

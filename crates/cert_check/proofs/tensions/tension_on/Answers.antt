@@ -2,7 +2,7 @@ use Rattle.std.proofs.Common.{◌≡◌, ◌∙◌, rules, SFits, to_z-of_z}
 use mir.Syntax.{w64}
 use Rattle.theory.specs.Network.{«at»}
 use Rattle.theory.specs.Conserved.{tension}
-use Rattle.cert_check.proofs.Scans.{tension_of_net, tension-within}
+use Rattle.cert_check.proofs.Nets.{tension_of_net, tension-within}
 use Rattle.cert_check.proofs.tensions.tension_on.Goals as goal
 
 pub returns : goal.returns
