@@ -3,3 +3,4 @@ pub mod Verdict
 pub mod VerdictLaws
 -- In the code: the verdict on a sum, and how far a total has come:
 pub mod SumVerdict
+pub mod PartialSum

@@ -1,7 +1,7 @@
 -- What holds of verdicts.
-use Rattle.std.specs.Prelude.{◌≡◌, ◌↔◌}
+use Rattle.std.specs.Prelude.{◌≡◌}
 use Rattle.theory.specs.Network.{Network}
-use Rattle.theory.specs.Certificate.{Certificate, Fits, IsValid}
+use Rattle.theory.specs.Certificate.{Certificate}
 use Rattle.cert_check.specs.Verdict.{IsVerdict}
 use Rattle.cert_check.specs.declared.judged.Judged.{Judged}
 

@@ -12,8 +12,8 @@ use cert_text::Certificate;
 use ground_net::Grounded;
 use net_incidence::{Step, Sum};
 
-/// Tests the certificate from its parts alone, whoever made it. A test of flows reads each arc once; the step test is that
-/// of `is_circuit`.
+/// Tests the certificate from its parts alone, whoever made it. It takes no memory. Beside `is_circuit` it costs a fixed
+/// number of passes over the nodes, the arcs and the lists of their curves.
 pub fn verdict(g: &Grounded, c: &Certificate) -> Judged
     requires { Fits g.now.network (shown c.now) }
     ensures first { IsVerdict g.now.network (shown c.now) result }

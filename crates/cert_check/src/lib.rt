@@ -5,8 +5,12 @@ mod judged;
 mod kinds;
 mod pricing;
 mod scan;
+mod tensions;
 mod verdict_laws;
 
 pub use judged::Judged;
 pub use kinds::verdict;
 pub use verdict_laws::one_verdict;
+
+#[cfg(test)]
+mod tests;

@@ -7,6 +7,7 @@ ghost use Rattle.theory.specs.Totals.{total_cost, total_value};
 ghost use Rattle.theory.specs.Certificate.{AreNumbers, IsPotentialOf};
 ghost use Rattle.cert_check.specs.Verdict.{IsInCapacity};
 
+use crate::tensions::tension_on;
 use curve_views::dual_at;
 use ground_net::Grounded;
 use mono_curve::cost_at;
@@ -34,7 +35,7 @@ pub(crate) fn total_value(g: &Grounded, u: &[i64]) -> i128
     let mut total = 0i128;
     for j in 0..g.net().arcs() as u32 {
         let arc = ArcId(j);
-        total -= dual_at(g.curve(arc), g.net().tension(u, arc));
+        total -= dual_at(g.curve(arc), tension_on(g, u, arc));
     }
     total
 }

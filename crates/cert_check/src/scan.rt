@@ -4,6 +4,7 @@ ghost use Rattle.theory.specs.First.{IsFirstFailing};
 ghost use Rattle.theory.specs.Certificate.{AreNumbers, IsPotentialOf};
 ghost use Rattle.cert_check.specs.Verdict.{IsBalanced, IsPairOfCurve, IsInCapacity};
 
+use crate::tensions::tension_on;
 use ground_net::Grounded;
 use mono_curve::{domain_of, on_curve};
 use net_incidence::{ArcId, NodeId};
@@ -32,7 +33,7 @@ pub(crate) fn first_off_curve(g: &Grounded, x: &[i64], u: &[i64]) -> Option<ArcI
 {
     for j in 0..g.net().arcs() as u32 {
         let arc = ArcId(j);
-        if !on_curve(g.curve(arc), x[j as usize], g.net().tension(u, arc)) {
+        if !on_curve(g.curve(arc), x[j as usize], tension_on(g, u, arc)) {
             return Some(arc);
         }
     }
@@ -45,7 +46,7 @@ pub(crate) fn first_out_of_capacity(g: &Grounded, x: &[i64]) -> Option<ArcId>
     ensures some { IfSome result (λ arc. IsFirstFailing (length g.now.network.arcs) (IsInCapacity g.now.network x.now) arc.0) }
     ensures none { IfNone result ((j : ℕ) → j < length g.now.network.arcs → IsInCapacity g.now.network x.now j) }
 {
-    for j in 0..g.net().arcs() as u32 {
+    for j in 0..x.len() as u32 {
         let (low, high) = domain_of(g.curve(ArcId(j)));
         if !is_between(low, high, x[j as usize]) {
             return Some(ArcId(j));

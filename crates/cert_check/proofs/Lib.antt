@@ -1,0 +1,7 @@
+-- What a net says of its network:
+pub mod Nets
+-- Scans of nodes and arcs, and their sums:
+pub mod Scans
+pub mod PartialSums
+-- Verdicts:
+pub mod Verdicts
