@@ -13,7 +13,7 @@ use Rattle.cert_text.proofs.OneCertificate.{one_certificate}
 use Rattle.cert_check.specs.Verdict.{IsVerdict}
 use Rattle.cert_check.specs.declared.judged.Judged.{Judged}
 use Rattle.cert_check.specs.declared.judged.Judged.TheVariants.{Accepted, NotConserved, OffCurve, OutOfCapacity, NotCircuit, Endless, WrongNumber, NotNegative}
-use Rattle.cert_check.proofs.Verdicts.{accepted_is_valid, valid_is_accepted}
+use Rattle.cert_check.proofs.Verdicts.{accepted-is_valid}
 use Rattle.mono_top.specs.Answer.{Outside, Answers, ReadsThen, ChecksFile}
 use Rattle.mono_top.specs.Causes.{AsksSolvable, AsksToCheck, GoesThrough}
 use Rattle.mono_top.specs.Checks.{ChecksText, IsValidText, status_by}
@@ -109,13 +109,12 @@ judged m bytes status text formed (inl (line, bad, is, said)) =
 judged m bytes status text formed (inr (c, spelled, (verdict, judges, is, said))) =
     elim (by_verdict verdict status is) [
       | inl (done, accepted) ↦
-          let judged_so = subst (λ (v : Judged). IsVerdict (grounded m) c v) accepted judges in
-          inl (done, record { certificate = c; spelled = spelled; valid = accepted_is_valid (grounded m) c spelled.fits judged_so })
+          inl (done, record { certificate = c; spelled = spelled; valid = (accepted-is_valid (grounded m) c verdict spelled.fits judges).0 accepted })
       | inr (rejected, refused) ↦ inr (
         rejected,
         λ valid.
             let same = one_certificate m bytes valid.certificate c formed valid.spelled spelled in
-            refused (valid_is_accepted (grounded m) c verdict judges (subst (λ (d : Certificate). IsValid (grounded m) d) same valid.valid)),
+            refused ((accepted-is_valid (grounded m) c verdict spelled.fits judges).1 (subst (λ (d : Certificate). IsValid (grounded m) d) same valid.valid)),
       )
     ]
 

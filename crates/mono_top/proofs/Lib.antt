@@ -1,4 +1,3 @@
-pub mod NamesLemmas
 pub mod FetchLemmas
 pub mod ModelFileLemmas
 pub mod DueLemmas
