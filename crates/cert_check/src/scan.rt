@@ -46,7 +46,7 @@ pub(crate) fn first_out_of_capacity(g: &Grounded, x: &[i64]) -> Option<ArcId>
     ensures some { IfSome result (λ arc. IsFirstFailing (length g.now.network.arcs) (IsInCapacity g.now.network x.now) arc.0) }
     ensures none { IfNone result ((j : ℕ) → j < length g.now.network.arcs → IsInCapacity g.now.network x.now j) }
 {
-    for j in 0..g.net().arcs() as u32 {
+    for j in 0..x.len() as u32 {
         let (low, high) = domain_of(g.curve(ArcId(j)));
         if !is_between(low, high, x[j as usize]) {
             return Some(ArcId(j));
