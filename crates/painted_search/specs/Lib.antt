@@ -1,0 +1,3 @@
+-- What the working room is seen as:
+pub mod Room
+pub mod Lending
