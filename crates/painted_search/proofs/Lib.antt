@@ -1,2 +1,7 @@
 pub mod Rooms
 pub mod Overwriting
+pub mod Counting
+pub mod Degrees
+pub mod Growing
+pub mod Leaving
+pub mod Spending

@@ -1,3 +1,8 @@
 -- What the working room is seen as:
 pub mod Room
 pub mod Lending
+pub mod Fits
+-- The answers of a search:
+pub mod Path
+-- How a search comes to them:
+pub mod Tree

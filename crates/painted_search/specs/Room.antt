@@ -110,7 +110,7 @@ begun w i = record w {
   reached = slice_set (replicate w.nodes false) i true;
   labels = replicate w.nodes None;
   walk = [];
-  sized = sized-begun w i
+  sized = sized-begun w i;
 }
 
 pub sized-label : (w : Room) (i : ℕ) (s : Step)

@@ -29,14 +29,14 @@ impl Model for Work {
     ghost Value = { Room };
 
     ghost view = { λ work. record {
-        nodes = work.nodes;
-        arcs = work.arcs;
-        flows = work.flows.items;
-        potentials = take work.nodes work.words.items;
-        reached = work.marks.items;
-        labels = work.labels.items;
-        walk = work.walk.items;
-        sized = work.sized
+      nodes = work.nodes;
+      arcs = work.arcs;
+      flows = work.flows.items;
+      potentials = take work.nodes work.words.items;
+      reached = work.marks.items;
+      labels = work.labels.items;
+      walk = work.walk.items;
+      sized = work.sized;
     } };
 }
 
@@ -66,7 +66,6 @@ impl Work {
             walk: Vec::with_capacity(alloc, nodes)?,
         })
     }
-
 
     pub fn nodes(&self) -> usize
         ensures { result ≡ self.now.nodes }

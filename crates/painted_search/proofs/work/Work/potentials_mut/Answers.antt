@@ -11,12 +11,14 @@ returns c =
     let n = c.self.inside.nodes in
     let words = c.self.inside.words in
     let nodes : n ≡ c.args.self.now.nodes = ap (λ (w : Room). w.nodes) c.self.view_is in
-    let enough : n ≤ words.len = omega (arith, words.ok.0, c.self.inside.words_there) in
-    (
-      (refl, λ w. room-same _ _
-      (ap (λ (v : Room). with_front v (take n (take words.len (w ++ drop (length w) words.items)))) c.self.view_is
-      ∙ ap (with_front c.args.self.now)
-      (front-overwritten n words.len w words.items enough ∙ ap (λ (v : Room). overwritten v.potentials v.nodes w) c.self.view_is))),
+    let enough : n ≤ words.len = omega (arith, words.ok.0, c.self.inside.words_there) in (
+      (
+        refl,
+        λ w. room-same _ _
+            (ap (λ (v : Room). with_front v (take n (take words.len (w ++ drop (length w) words.items)))) c.self.view_is
+            ∙ ap (with_front c.args.self.now)
+            (front-overwritten n words.len w words.items enough ∙ ap (λ (v : Room). overwritten v.potentials v.nodes w) c.self.view_is)),
+      ),
       record {
         writes_back = tt;
         words = ap length c.as_mut_slice.ensures.value ∙ c.self.inside.words_there ∙ ap (λ n. 3 * n) nodes;

@@ -12,5 +12,5 @@ returns c room =
     (ap (λ (w : Room). record (lists w) {
       reached = set w.reached c.args.node.0 true;
       labels = set w.labels c.args.node.0 (Some c.args.step);
-      walk = w.walk ++ c.args.step ∷ []
+      walk = w.walk ++ c.args.step ∷ [];
     }) c.self.view_is)
