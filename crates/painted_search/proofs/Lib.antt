@@ -5,3 +5,6 @@ pub mod Degrees
 pub mod Growing
 pub mod Leaving
 pub mod Spending
+pub mod Branch
+pub mod Tracing
+pub mod Ending
