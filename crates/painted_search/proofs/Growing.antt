@@ -200,7 +200,7 @@ pub passed : (g : Graph) (Ready : List ℤ → List ℤ → Type 0) (paint : Lis
     → ((room : length w.walk < w.nodes) → new ≡ with_reached w i s room) → IsPassed g Ready paint from s i w new
 passed g Ready paint from s i w new searching there free begins is outside made =
     let P : ℕ → Type 0 = λ i. holds w.reached i ≡ false → ((room : length w.walk < w.nodes) → new ≡ with_reached w i s room)
-        → IsPassed g Ready paint from s i w new in
+    → IsPassed g Ready paint from s i w new in
     subst P (sym is)
     (λ outside made.
     let room = searching-room g Ready paint from w s searching there outside in

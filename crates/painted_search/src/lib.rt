@@ -11,3 +11,6 @@ pub use painter::Painter;
 pub use searching::{Found, search};
 pub use theory::Colour;
 pub use work::Work;
+
+#[cfg(test)]
+mod tests;
