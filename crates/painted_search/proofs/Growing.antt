@@ -194,11 +194,14 @@ pub record IsPassed (g : Graph) (Ready : List ℤ → List ℤ → Type 0) (pain
   pub met : (k : ℕ) → holds w.reached k ≡ false → i == k ≡ holds new.reached k
   pub reached : IsTrue (holds new.reached (end_of (bare g) s))
 
-pub passed : (g : Graph) (Ready : List ℤ → List ℤ → Type 0) (paint : List ℤ → List ℤ → ℕ → Colour) (from : ℕ) (s : Step) (i : ℕ) (w new : Room)
+pub unreached : (side : List Bool) (i j : ℕ) (answer : Bool) → i ≡ j → answer ≡ holds side i → answer ≡ false → holds side j ≡ false
+unreached side i j answer same is off = ap (holds side) (sym same) ∙ sym is ∙ off
+
+pub passed : (g : Graph) (Ready : List ℤ → List ℤ → Type 0) (paint : List ℤ → List ℤ → ℕ → Colour) (from : ℕ) (s : Step) (i : ℕ) (w new : Room) (answer : Bool)
     → IsSearching g Ready paint from w → s.arc.0 < length g.arcs → IsFreeStep (paint w.flows w.potentials) s
-    → IsTrue (holds w.reached (begin_of (bare g) s)) → i ≡ end_of (bare g) s → holds w.reached i ≡ false
+    → IsTrue (holds w.reached (begin_of (bare g) s)) → i ≡ end_of (bare g) s → answer ≡ holds w.reached i → answer ≡ false
     → ((room : length w.walk < w.nodes) → new ≡ with_reached w i s room) → IsPassed g Ready paint from s i w new
-passed g Ready paint from s i w new searching there free begins is outside made =
+passed g Ready paint from s i w new answer searching there free begins is answered off made =
     let P : ℕ → Type 0 = λ i. holds w.reached i ≡ false → ((room : length w.walk < w.nodes) → new ≡ with_reached w i s room)
     → IsPassed g Ready paint from s i w new in
     subst P (sym is)
@@ -213,4 +216,4 @@ passed g Ready paint from s i w new searching there free begins is outside made 
       met = λ k off. met-is w.reached (end_of (bare g) s) k mark_there off;
       reached = holds-set_same w.reached (end_of (bare g) s) (end_of (bare g) s) mark_there refl;
     }))
-    outside made
+    (sym answered ∙ off) made

@@ -52,15 +52,15 @@ passed-all g paint steps w i count before all are s there begins free =
 
 -- ---- the first nodes of the tree
 
-pub left-more : (net : Network) (paint : List ℤ → List ℤ → ℕ → Colour) (from : ℕ) (v w : Room) (count : ℕ) → GoesOn v w
-    → count ≤ length v.walk
+pub left-more : (net : Network) (paint : List ℤ → List ℤ → ℕ → Colour) (from : ℕ) (v w : Room) (count node : ℕ) → GoesOn v w
+    → count ≤ length v.walk → node ≡ node_at net from v.walk count
     → AreLeft net (paint v.flows v.potentials) from v count
-    → ((s : Step) → s.arc.0 < length net.arcs → begin_of net s ≡ node_at net from v.walk count
-    → IsFreeStep (paint w.flows w.potentials) s → IsTrue (holds w.reached (end_of net s)))
+    → ((s : Step) → s.arc.0 < length net.arcs → begin_of net s ≡ node → IsFreeStep (paint w.flows w.potentials) s → IsTrue (holds w.reached (end_of net s)))
     → AreLeft net (paint w.flows w.potentials) from w (count + 1)
-left-more net paint from v w count on within before here =
+left-more net paint from v w count node on within at_node before here =
     below_more _ _
     (λ k l s there begins free.
     on.reached (end_of net s)
     (before k l s there (begins ∙ node_at-kept net from v.walk w.walk on.walk k (omega arith)) (free-back paint v w s on free)))
-    (λ s there begins free. here s there (begins ∙ node_at-kept net from v.walk w.walk on.walk count within) free)
+    (λ s there begins free.
+    here s there (begins ∙ node_at-kept net from v.walk w.walk on.walk count within ∙ sym at_node) free)

@@ -48,9 +48,9 @@ pub record IsGrowth (net : Network) (colours : ℕ → Colour) (side : List Bool
 abbrev pub label_at : List (Option Step) → ℕ → Option Step
 label_at labels i = slice_index_or labels i None
 
--- a node has no label exactly where it is outside the set or is the node that the set grew from
-abbrev pub MarkOut : List (Option Step) → List Bool → ℕ → Type 0
-MarkOut labels side from = (i : ℕ) → IsNone (label_at labels i) ↔ ((holds side i ≡ false) ⊎ (i ≡ from))
+-- the labels of a set that grew from a node: none exactly at that node and outside the set
+abbrev pub AreLabelsOf : List (Option Step) → List Bool → ℕ → Type 0
+AreLabelsOf labels side from = (i : ℕ) → IsNone (label_at labels i) ↔ ((holds side i ≡ false) ⊎ (i ≡ from))
 
 -- each step of the walk is the label of the node where it ends
 abbrev pub LeadAlong : Network → List (Option Step) → List Step → Type 0

@@ -2,7 +2,7 @@
 ghost use Rattle.std.specs.Prelude.{◌≡◌, ◌≢◌, ◌+◌, ◌*◌, ◌<◌, ◌≤◌, length};
 ghost use Rattle.net_incidence.specs.Graph.{bare};
 ghost use Rattle.painted_search.specs.Fits.{Fits};
-ghost use Rattle.painted_search.specs.Path.{IsFreePath, IsFreeCut, IsGrowth, MarkOut, LeadAlong};
+ghost use Rattle.painted_search.specs.Path.{IsFreePath, IsFreeCut, IsGrowth, AreLabelsOf, LeadAlong};
 
 use crate::grow::Quest;
 use crate::painter::Painter;
@@ -42,7 +42,7 @@ pub fn search<P: Painter, L: Ledger>(
         → IsFreeCut (bare net.now) (P.paint painter.now work.old.flows work.old.potentials) work.new.reached from.0 to.0 }
     ensures grown { result ≡ Found.Cut
         → IsGrowth (bare net.now) (P.paint painter.now work.old.flows work.old.potentials) work.new.reached work.new.walk from.0 }
-    ensures labels { MarkOut work.new.labels work.new.reached from.0 }
+    ensures labels { AreLabelsOf work.new.labels work.new.reached from.0 }
     ensures flows { work.new.flows ≡ work.old.flows }
     ensures potentials { work.new.potentials ≡ work.old.potentials }
     ensures fits { Fits net.now work.new }

@@ -189,14 +189,14 @@ impl Work {
     }
 
     /// Reaches one node alone, by no step.
-    pub(crate) fn begin_at(&mut self, node: NodeId)
-        requires { node.0 < self.old.nodes }
-        ensures { self.new ≡ begun self.old node.0 }
+    pub(crate) fn begin_at(&mut self, root: NodeId)
+        requires { root.0 < self.old.nodes }
+        ensures { self.new ≡ begun self.old root.0 }
     {
         self.marks.as_mut_slice().fill(false);
         self.labels.as_mut_slice().fill(None);
         self.walk.clear();
-        self.marks[node.0 as usize] = true;
+        self.marks[root.0 as usize] = true;
     }
 
     /// Reaches the node by the step, and adds the step to the walk.

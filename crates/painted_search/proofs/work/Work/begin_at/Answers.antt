@@ -19,4 +19,4 @@ returns c =
     (c.self.inside.labels.ok.0 ∙ sym (c.fill-2.ensures.len ∙ ap length c.as_mut_slice-2.ensures.value)) in
     room-same _ _
     (with_search-same _ _ _ _ _ _ _ _ c.self.view_is
-    (ap (λ reached. set reached c.args.node.0 true) (all_marks ∙ marks)) (all_labels ∙ labels) c.clear.ensures.items)
+    (ap (λ reached. set reached c.args.root.0 true) (all_marks ∙ marks)) (all_labels ∙ labels) c.clear.ensures.items)
