@@ -1,0 +1,10 @@
+pub mod Rooms
+pub mod Overwriting
+pub mod Counting
+pub mod Degrees
+pub mod Growing
+pub mod Leaving
+pub mod Spending
+pub mod Branch
+pub mod Tracing
+pub mod Ending

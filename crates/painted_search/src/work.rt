@@ -1,0 +1,218 @@
+// The working room of a solve: all that its passes write, taken once.
+ghost use Rattle.std.specs.Prelude.{◌≡◌, ◌*◌, ◌≤◌, length, take, vec_capacity};
+ghost use Rattle.painted_search.specs.Room.{IsSized};
+
+use std::alloc::{AllocError, Global};
+use std::marker::Model;
+use theory::{ArcId, NodeId, Step};
+
+/// A flow for each arc, a potential, a mark and a label for each node, and a walk.
+#[derive(Drop)]
+pub struct Work {
+    nodes: usize,
+    arcs: usize,
+    flows: Vec<i64>,
+    // the potentials, then the scratch
+    words: Vec<i64>,
+    marks: Vec<bool>,
+    labels: Vec<Option<Step>>,
+    walk: Vec<Step>,
+    ghost sized: { IsSized nodes arcs flows.items (take nodes words.items) marks.items labels.items walk.items },
+    ghost words_there: { length words.items ≡ 3 * nodes },
+    ghost walk_room: { nodes ≤ vec_capacity walk },
+}
+
+impl Model for Work {
+    ghost use Rattle.std.specs.Prelude.{take};
+    ghost use Rattle.painted_search.specs.Room.{Room};
+
+    ghost Value = { Room };
+
+    ghost view = { λ work. record {
+      nodes = work.nodes;
+      arcs = work.arcs;
+      flows = work.flows.items;
+      potentials = take work.nodes work.words.items;
+      reached = work.marks.items;
+      labels = work.labels.items;
+      walk = work.walk.items;
+      sized = work.sized;
+    } };
+}
+
+impl Work {
+    ghost use Rattle.std.specs.Prelude.{◌≡◌, ◌*◌, ◌<◌, ◌≤◌, length, take, slice_index_or, None, IfOk};
+    ghost use Rattle.std.specs.Borrow.{sem};
+    ghost use Rattle.theory.specs.Network.{«at»};
+    ghost use Rattle.theory.specs.Cut.{holds};
+    ghost use Rattle.theory.specs.Circuit.{step};
+    ghost use Rattle.painted_search.specs.Room.{most_count, IsEmpty, with_flow, with_potential, with_no_walk, with_step, begun, with_reached, with_turned_walk};
+    ghost use Rattle.painted_search.specs.Lending.{LendsPotentials};
+
+    /// Room for this many nodes and arcs.
+    pub fn take(alloc: Global, nodes: usize, arcs: usize) -> Result<Work, AllocError>
+        requires some_node { 1 ≤ nodes }
+        requires few_nodes { nodes ≤ most_count }
+        requires few_arcs { arcs ≤ most_count }
+        ensures { IfOk result (IsEmpty nodes arcs) }
+    {
+        Ok(Work {
+            nodes,
+            arcs,
+            flows: vec![in alloc; 0i64; arcs]?,
+            words: vec![in alloc; 0i64; 3 * nodes]?,
+            marks: vec![in alloc; false; nodes]?,
+            labels: vec![in alloc; None; nodes]?,
+            walk: Vec::with_capacity(alloc, nodes)?,
+        })
+    }
+
+    pub fn nodes(&self) -> usize
+        ensures { result ≡ self.now.nodes }
+    {
+        self.nodes
+    }
+
+    pub fn arcs(&self) -> usize
+        ensures { result ≡ self.now.arcs }
+    {
+        self.arcs
+    }
+
+    pub fn flow(&self, arc: ArcId) -> i64
+        requires { arc.0 < self.now.arcs }
+        ensures { result ≡ «at» self.now.flows arc.0 }
+    {
+        self.flows[arc.0 as usize]
+    }
+
+    pub fn set_flow(&mut self, arc: ArcId, flow: i64)
+        requires { arc.0 < self.old.arcs }
+        ensures { self.new ≡ with_flow self.old arc.0 flow }
+    {
+        self.flows[arc.0 as usize] = flow;
+    }
+
+    pub fn potential(&self, node: NodeId) -> i64
+        requires { node.0 < self.now.nodes }
+        ensures { result ≡ «at» self.now.potentials node.0 }
+    {
+        self.words[node.0 as usize]
+    }
+
+    pub fn set_potential(&mut self, node: NodeId, potential: i64)
+        requires { node.0 < self.old.nodes }
+        ensures { self.new ≡ with_potential self.old node.0 potential }
+    {
+        self.words[node.0 as usize] = potential;
+    }
+
+    /// Whether the search reached the node.
+    pub fn reached(&self, node: NodeId) -> bool
+        requires { node.0 < self.now.nodes }
+        ensures { result ≡ holds self.now.reached node.0 }
+    {
+        self.marks[node.0 as usize]
+    }
+
+    /// The step by which the search reached the node.
+    pub fn label(&self, node: NodeId) -> Option<Step>
+        requires { node.0 < self.now.nodes }
+        ensures { result ≡ slice_index_or self.now.labels node.0 None }
+    {
+        self.labels[node.0 as usize]
+    }
+
+    pub fn walk_len(&self) -> usize
+        ensures { result ≡ length self.now.walk }
+    {
+        self.walk.len()
+    }
+
+    pub fn walk_step(&self, k: usize) -> Step
+        requires { k < length self.now.walk }
+        ensures { result ≡ step self.now.walk k }
+    {
+        self.walk[k]
+    }
+
+    pub fn clear_walk(&mut self)
+        ensures { self.new ≡ with_no_walk self.old }
+    {
+        self.walk.clear();
+    }
+
+    pub fn push_step(&mut self, step: Step)
+        requires { length self.old.walk < self.old.nodes }
+        ensures { (room : length self.old.walk < self.old.nodes) → self.new ≡ with_step self.old step room }
+    {
+        match self.walk.push(step) {
+            Ok(()) => {}
+            Err(_) => unreachable!(),
+        }
+    }
+
+    /// The flows, one for each arc.
+    pub fn flows(&self) -> &[i64]
+        ensures { result.now ≡ self.now.flows }
+    {
+        self.flows.as_slice()
+    }
+
+    /// The potentials, one for each node.
+    pub fn potentials(&self) -> &[i64]
+        ensures { result.now ≡ self.now.potentials }
+    {
+        &self.words[..self.nodes]
+    }
+
+    /// The marks of the reached nodes, one for each node.
+    pub fn marks(&self) -> &[bool]
+        ensures { result.now ≡ self.now.reached }
+    {
+        self.marks.as_slice()
+    }
+
+    pub fn walk(&self) -> &[Step]
+        ensures { result.now ≡ self.now.walk }
+    {
+        self.walk.as_slice()
+    }
+
+    /// Lends the potentials with twice as many words behind them, for the caller's own use.
+    pub fn potentials_mut(&mut self) -> &mut [i64]
+        ensures* writes_back { sem 𝓛 (LendsPotentials self.entry result) }
+        ensures words { length result.now ≡ 3 * self.old.nodes }
+        ensures potentials { take self.old.nodes result.now ≡ self.old.potentials }
+    {
+        self.words.as_mut_slice()
+    }
+
+    /// Reaches one node alone, by no step.
+    pub(crate) fn begin_at(&mut self, root: NodeId)
+        requires { root.0 < self.old.nodes }
+        ensures { self.new ≡ begun self.old root.0 }
+    {
+        self.marks.as_mut_slice().fill(false);
+        self.labels.as_mut_slice().fill(None);
+        self.walk.clear();
+        self.marks[root.0 as usize] = true;
+    }
+
+    /// Reaches the node by the step, and adds the step to the walk.
+    pub(crate) fn reach(&mut self, node: NodeId, step: Step)
+        requires there { node.0 < self.old.nodes }
+        requires room { length self.old.walk < self.old.nodes }
+        ensures { (room : length self.old.walk < self.old.nodes) → self.new ≡ with_reached self.old node.0 step room }
+    {
+        self.marks[node.0 as usize] = true;
+        self.labels[node.0 as usize] = Some(step);
+        self.push_step(step);
+    }
+
+    pub(crate) fn turn_walk(&mut self)
+        ensures { self.new ≡ with_turned_walk self.old }
+    {
+        self.walk.reverse();
+    }
+}
