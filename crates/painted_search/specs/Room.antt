@@ -1,7 +1,7 @@
 -- Room: what the working room of a solve is seen as. A flow for each arc, a potential, a mark and a label for each node, a
 -- walk, and the counts of nodes and arcs that it was taken for, with the proof that the lengths agree with these.
 -- A write gives the room with one part changed: `with_flow` and its like, each with the proof for what it wrote.
-use Rattle.std.specs.Prelude.{◌≡◌, ℕ, ◌+◌, ◌<◌, ◌≤◌, ◌^◌, ℤ, pos, Bool, true, false, Option, Some, None, List, [], ◌∷◌, ◌++◌, length, take, drop, replicate, reverse, slice_set}
+use Rattle.std.specs.Prelude.{◌≡◌, ℕ, ◌<◌, ◌≤◌, ◌^◌, ℤ, pos, Bool, true, false, Option, Some, None, List, [], ◌∷◌, ◌++◌, length, take, drop, replicate, reverse, slice_set}
 use Rattle.std.proofs.Common.{refl, sym, ◌∙◌, arith, length-append}
 use Rattle.std.proofs.lemmas.List.{length-set, length-replicate, length-reverse}
 use Rattle.std.specs.List.{length_refill}
