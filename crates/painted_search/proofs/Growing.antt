@@ -12,7 +12,8 @@ use Rattle.theory.specs.Cut.{holds}
 use Rattle.theory.specs.Circuit.{step, begin_of, end_of}
 use Rattle.net_incidence.specs.Graph.{Graph, bare}
 use Rattle.net_incidence.specs.Incidence.{over}
-use Rattle.painted_search.specs.Room.{Room, with_reached}
+use Rattle.painted_search.specs.Room.{Room}
+use Rattle.painted_search.specs.Reaching.{with_reached}
 use Rattle.painted_search.specs.Path.{IsFreeStep, label_at}
 use Rattle.painted_search.specs.Tree.{node_at, IsTree, IsSearching, GoesOn}
 use Rattle.painted_search.proofs.Counting.{fewer-without}

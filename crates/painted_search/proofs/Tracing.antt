@@ -9,7 +9,9 @@ use Rattle.theory.specs.declared.network.Step.{Step}
 use Rattle.theory.specs.Network.{Network}
 use Rattle.theory.specs.Cut.{holds}
 use Rattle.theory.specs.Circuit.{step, begin_of}
-use Rattle.painted_search.specs.Room.{Room, with_no_walk, with_step, with_turned_walk}
+use Rattle.painted_search.specs.Room.{Room}
+use Rattle.painted_search.specs.Writes.{with_no_walk, with_step}
+use Rattle.painted_search.specs.Reaching.{with_turned_walk}
 use Rattle.painted_search.specs.Path.{IsFreePath, LeadAlong, label_at}
 use Rattle.painted_search.specs.Tree.{node_at, IsTree, IsSameButWalk}
 use Rattle.painted_search.proofs.Branch.{IsBranch, branch-length, branch-path, branch-labels}
