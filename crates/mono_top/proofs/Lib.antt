@@ -1,5 +1,6 @@
 pub mod FetchLemmas
 pub mod ModelFileLemmas
+pub mod FeasibleParts
 pub mod DueLemmas
 pub mod HeadlineLemmas
 pub mod ForcedFlow

@@ -91,12 +91,18 @@ fn flow_part<L: Ledger>(
     ensures no_fewer { steps.old ≤ steps.new }
     ensures count { steps.new ≤ steps.old + 3 * unscaled_unit g.now.network.nodes (length g.now.network.arcs) }
 {
-    match feasible_flow(g.net(), g.curves(), work, steps) {
+    let net = g.net();
+    let curves = g.curves();
+    match feasible_flow(net, curves, work, steps) {
         FlowAns::Flow => Ok(FlowPart::Yes(Flows::of_vec(work.flows().to_vec(alloc)?))),
-        FlowAns::Cut => Ok(FlowPart::No {
-            side: Marks::of_vec(work.marks().to_vec(alloc)?),
-            capacity: number_of(g.net().cut_sum(g.curves(), work.marks())),
-        }),
+        FlowAns::Cut => {
+            let side = work.marks();
+            let capacity = number_of(net.cut_sum(curves, side));
+            Ok(FlowPart::No {
+                side: Marks::of_vec(side.to_vec(alloc)?),
+                capacity,
+            })
+        }
     }
 }
 
@@ -112,12 +118,21 @@ fn tension_part<L: Ledger>(
     ensures no_fewer { steps.old ≤ steps.new }
     ensures count { steps.new ≤ steps.old + g.now.network.nodes * length g.now.network.arcs }
 {
-    match feasible_tension(g.net(), g.curves(), work, steps) {
-        TensionAns::Potential => Ok(TensionPart::Yes(Flows::of_vec(work.potentials().to_vec(alloc)?))),
-        TensionAns::Circuit => Ok(TensionPart::No {
-            walk: Walk::of_vec(work.walk().to_vec(alloc)?),
-            span: number_of(g.net().circuit_sum(g.curves(), work.walk())),
-        }),
+    let net = g.net();
+    let curves = g.curves();
+    match feasible_tension(net, curves, work, steps) {
+        TensionAns::Potential => {
+            let potentials = work.potentials().to_vec(alloc)?;
+            Ok(TensionPart::Yes(Flows::of_vec(potentials)))
+        }
+        TensionAns::Circuit => {
+            let walk = work.walk();
+            let span = number_of(net.circuit_sum(curves, walk));
+            Ok(TensionPart::No {
+                walk: Walk::of_vec(walk.to_vec(alloc)?),
+                span,
+            })
+        }
     }
 }
 
