@@ -131,3 +131,20 @@ sized-turned w = resized w.sized refl refl refl refl (let e = length-reverse w.w
 
 abbrev pub with_turned_walk : Room → Room
 with_turned_walk w = record w { walk = reverse w.walk; sized = sized-turned w }
+
+-- ---- what other passes write
+
+pub sized-unlabelled : (w : Room) → IsSized w.nodes w.arcs w.flows w.potentials w.reached (replicate w.nodes None) w.walk
+sized-unlabelled w =
+    resized w.sized refl refl refl (length-replicate w.nodes None ∙ sym w.sized.one_label_each) w.sized.short_walk
+
+abbrev pub unlabelled : Room → Room
+unlabelled w = record w { labels = replicate w.nodes None; sized = sized-unlabelled w }
+
+pub sized-relabelled : (w : Room) (i : ℕ) (s : Step)
+    → IsSized w.nodes w.arcs w.flows w.potentials w.reached (slice_set w.labels i (Some s)) w.walk
+sized-relabelled w i s = resized w.sized refl refl refl (length-set w.labels i (Some s)) w.sized.short_walk
+
+-- node i labelled by a step, and marked as it was
+abbrev pub relabelled : Room → ℕ → Step → Room
+relabelled w i s = record w { labels = slice_set w.labels i (Some s); sized = sized-relabelled w i s }
