@@ -25,10 +25,10 @@ fn net_of(rt: &(impl Abort + AllocGlobal), nodes: u32, arcs: &[(u32, u32)]) -> R
     Ok(net)
 }
 
-fn curves_of(rt: &(impl Abort + AllocGlobal), lists: &[&[Ext]]) -> Result<Vec<Curve>, Fail> {
+fn curves_of(rt: &(impl Abort + AllocGlobal), lists: &[[Ext; 3]]) -> Result<Vec<Curve>, Fail> {
     let mut curves = Vec::new(rt.alloc());
     for items in lists {
-        curves.push(Curve::of_list(rt.alloc(), items, 0)?)?;
+        curves.push(Curve::of_list(rt.alloc(), items.as_slice(), 0)?)?;
     }
     Ok(curves)
 }
@@ -78,13 +78,7 @@ fn from(least: i64) -> [Ext; 3] {
 #[test]
 fn finds_potentials_and_circuits(rt: HostRuntime) -> Result<(), Fail> {
     let (f, b) = (forward, backward);
-    let near = [
-        Ext::MinusInf,
-        Ext::At(-1),
-        Ext::At(0),
-        Ext::At(1),
-        Ext::PlusInf,
-    ];
+    let fixed = [Ext::MinusInf, Ext::At(0), Ext::PlusInf];
     let (below, level, above) = (up_to(-1), up_to(0), up_to(1));
     let (far_below, far_above) = (up_to(-3), from(2));
     for (nodes, arcs, lists, found, potentials, walk) in [
@@ -100,7 +94,7 @@ fn finds_potentials_and_circuits(rt: HostRuntime) -> Result<(), Fail> {
         (
             2,
             [(0, 1)].as_slice(),
-            [near.as_slice()].as_slice(),
+            [fixed].as_slice(),
             TensionAns::Potential,
             [0, 0].as_slice(),
             [].as_slice(),
@@ -109,7 +103,7 @@ fn finds_potentials_and_circuits(rt: HostRuntime) -> Result<(), Fail> {
         (
             2,
             [(1, 0)].as_slice(),
-            [far_below.as_slice()].as_slice(),
+            [far_below].as_slice(),
             TensionAns::Potential,
             [0, 3].as_slice(),
             [].as_slice(),
@@ -118,7 +112,7 @@ fn finds_potentials_and_circuits(rt: HostRuntime) -> Result<(), Fail> {
         (
             4,
             [(2, 3), (1, 2), (0, 1)].as_slice(),
-            [below.as_slice(), below.as_slice(), below.as_slice()].as_slice(),
+            [below, below, below].as_slice(),
             TensionAns::Potential,
             [0, -1, -2, -3].as_slice(),
             [].as_slice(),
@@ -127,7 +121,7 @@ fn finds_potentials_and_circuits(rt: HostRuntime) -> Result<(), Fail> {
         (
             2,
             [(0, 1), (1, 0)].as_slice(),
-            [below.as_slice(), above.as_slice()].as_slice(),
+            [below, above].as_slice(),
             TensionAns::Potential,
             [0, -1].as_slice(),
             [].as_slice(),
@@ -136,7 +130,7 @@ fn finds_potentials_and_circuits(rt: HostRuntime) -> Result<(), Fail> {
         (
             2,
             [(0, 1), (1, 0)].as_slice(),
-            [below.as_slice(), level.as_slice()].as_slice(),
+            [below, level].as_slice(),
             TensionAns::Circuit,
             [-1, -2].as_slice(),
             [f(1), f(0)].as_slice(),
@@ -144,7 +138,7 @@ fn finds_potentials_and_circuits(rt: HostRuntime) -> Result<(), Fail> {
         (
             3,
             [(0, 1), (1, 2), (2, 0)].as_slice(),
-            [above.as_slice(), above.as_slice(), far_below.as_slice()].as_slice(),
+            [above, above, far_below].as_slice(),
             TensionAns::Circuit,
             [-4, -2, -1].as_slice(),
             [f(0), f(1), f(2)].as_slice(),
@@ -152,7 +146,7 @@ fn finds_potentials_and_circuits(rt: HostRuntime) -> Result<(), Fail> {
         (
             2,
             [(0, 1), (0, 1)].as_slice(),
-            [far_above.as_slice(), above.as_slice()].as_slice(),
+            [far_above, above].as_slice(),
             TensionAns::Circuit,
             [-3, -1].as_slice(),
             [f(1), b(0)].as_slice(),
