@@ -15,7 +15,7 @@ use Rattle.theory.proofs.Shape.{Shape, Rest, ends, goes_on, single, long, shape_
 use Rattle.theory.proofs.Bounds.{item_within}
 use Rattle.net_incidence.specs.Graph.{Graph, bare}
 use Rattle.net_incidence.specs.Incidence.{over}
-use Rattle.painted_search.specs.Unpriced.{free_at_rest, unpriced}
+use Rattle.painted_search.specs.Unpriced.{without_base, unpriced}
 
 pub record IsBounded (net : Network) : Type 0 where
   pub tails : (j : ℕ) → j < length net.arcs → tail net j < net.nodes
@@ -28,13 +28,13 @@ pub record IsBounded (net : Network) : Type 0 where
 
 -- what holds of each curve's list
 each-curve : {C : Type 0} (P : List Ext → Type 0) (items : C → List Ext) (curves : List C) (none : Listing) → ((c : C) → P (items c))
-    → (j : ℕ) → j < length curves → P (get_or (map free_at_rest (map items curves)) j none).items
+    → (j : ℕ) → j < length curves → P (get_or (map without_base (map items curves)) j none).items
 each-curve P items [] none holds j l = absurd (omega arith)
 each-curve P items (c ∷ curves) none holds zero l = holds c
 each-curve P items (c ∷ curves) none holds (suc j) l = each-curve P items curves none holds j (omega arith)
 
 pub items-at : {C : Type 0} (items : C → List Ext) (curves : List C) (none : Listing) (c : C) (j : ℕ) → j < length curves
-    → (get_or (map free_at_rest (map items curves)) j none).items ≡ items (get_or curves j c)
+    → (get_or (map without_base (map items curves)) j none).items ≡ items (get_or curves j c)
 items-at items [] none c j l = absurd (omega arith)
 items-at items (d ∷ curves) none c zero l = refl
 items-at items (d ∷ curves) none c (suc j) l = items-at items curves none c j (omega arith)

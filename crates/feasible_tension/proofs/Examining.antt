@@ -12,7 +12,8 @@ use Rattle.theory.specs.Conserved.{tension}
 use Rattle.theory.specs.Circuit.{end_of, span_end}
 use Rattle.net_incidence.specs.Graph.{Graph, bare}
 use Rattle.net_incidence.specs.Incidence.{over}
-use Rattle.painted_search.specs.Room.{Room, with_potential, relabelled}
+use Rattle.painted_search.specs.Room.{Room}
+use Rattle.painted_search.specs.Writes.{with_potential, relabelled}
 use Rattle.painted_search.specs.Unpriced.{unpriced}
 use Rattle.feasible_tension.specs.Bounds.{most_at, IsHeld, lowered, IsLowered, IsExamined}
 use Rattle.feasible_tension.specs.Kept.{IsKept}

@@ -12,7 +12,8 @@ use Rattle.theory.specs.declared.network.Step.{Step}
 use Rattle.theory.specs.Ends.{whole}
 use Rattle.theory.specs.Network.{Network, «at»}
 use Rattle.theory.specs.Circuit.{step, begin_of, span_end, SpanCounts, span_sum}
-use Rattle.painted_search.specs.Room.{Room, with_no_walk, with_step}
+use Rattle.painted_search.specs.Room.{Room}
+use Rattle.painted_search.specs.Writes.{with_no_walk, with_step}
 use Rattle.painted_search.specs.Path.{label_at}
 use Rattle.feasible_tension.specs.Back.{back, IsOnCircuit}
 use Rattle.feasible_tension.specs.Kept.{IsKept}

@@ -2,7 +2,8 @@
 use Rattle.std.proofs.Common.{◌≡◌, ℕ, ◌+◌, ◌<◌, ◌≤◌, ℤ, ◌-ℤ◌, sym, ap, ◌∙◌, subst, ⊎_elim, arith}
 use Rattle.std.proofs.lemmas.Bool.{cases_lt}
 use Rattle.theory.specs.Network.{«at»}
-use Rattle.painted_search.specs.Room.{Room, with_potential}
+use Rattle.painted_search.specs.Room.{Room}
+use Rattle.painted_search.specs.Writes.{with_potential}
 use Rattle.feasible_tension.specs.Kept.{IsKept}
 use Rattle.feasible_tension.proofs.Writes.{at-set_same, at-set_other}
 

@@ -7,7 +7,8 @@ use Rattle.theory.specs.Ends.{IsFinite, whole}
 use Rattle.theory.specs.Network.{Network, «at»}
 use Rattle.theory.specs.Circuit.{begin_of, end_of, span_end}
 use Rattle.net_incidence.specs.Incidence.{over}
-use Rattle.painted_search.specs.Room.{Room, with_potential, relabelled}
+use Rattle.painted_search.specs.Room.{Room}
+use Rattle.painted_search.specs.Writes.{with_potential, relabelled}
 
 -- the greatest potential that a step leaves to the node where it ends, if its span end is finite
 abbrev pub most_at : Network → List ℤ → Step → ℤ

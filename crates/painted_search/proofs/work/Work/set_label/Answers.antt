@@ -1,5 +1,6 @@
 use Rattle.std.proofs.Common.{ap}
-use Rattle.painted_search.specs.Room.{Room, relabelled}
+use Rattle.painted_search.specs.Room.{Room}
+use Rattle.painted_search.specs.Writes.{relabelled}
 use Rattle.painted_search.proofs.Rooms.{lists, room-same}
 use Rattle.painted_search.proofs.work.Work.set_label.Goals as goal
 

@@ -1,0 +1,28 @@
+-- Writes: the room with one part changed.
+use Rattle.std.specs.Prelude.{ℕ, ◌<◌, ℤ, Some, None, List, [], ◌∷◌, ◌++◌, length, replicate, slice_set}
+use Rattle.theory.specs.declared.network.Step.{Step}
+use Rattle.painted_search.specs.Room.{Room, overwritten}
+use Rattle.painted_search.specs.SizedFacts.{sized-flow, sized-potential, sized-potentials, sized-no_walk, sized-step, sized-unlabelled, sized-relabelled}
+
+abbrev pub with_flow : Room → ℕ → ℤ → Room
+with_flow w j x = record w { flows = slice_set w.flows j x; sized = sized-flow w j x }
+
+abbrev pub with_potential : Room → ℕ → ℤ → Room
+with_potential w i u = record w { potentials = slice_set w.potentials i u; sized = sized-potential w i u }
+
+abbrev pub with_potentials : Room → List ℤ → Room
+with_potentials w u = record w { potentials = overwritten w.potentials w.nodes u; sized = sized-potentials w u }
+
+abbrev pub with_no_walk : Room → Room
+with_no_walk w = record w { walk = []; sized = sized-no_walk w }
+
+abbrev pub with_step : (w : Room) (s : Step) → length w.walk < w.nodes → Room
+with_step w s room = record w { walk = w.walk ++ s ∷ []; sized = sized-step w s room }
+
+-- no label anywhere
+abbrev pub unlabelled : Room → Room
+unlabelled w = record w { labels = replicate w.nodes None; sized = sized-unlabelled w }
+
+-- node i labelled by a step, and marked as it was
+abbrev pub relabelled : Room → ℕ → Step → Room
+relabelled w i s = record w { labels = slice_set w.labels i (Some s); sized = sized-relabelled w i s }
