@@ -72,7 +72,8 @@ ends_over net j false good l = good.tails j l
 pub end-there : (net : Network) (s : Step) → IsBounded net → s.arc.0 < length net.arcs → end_of net s < net.nodes
 end-there net s good l = ends_over net s.arc.0 s.forward good l
 
-apart_over : (net : Network) (j : ℕ) (forward : Bool) → IsBounded net → j < length net.arcs → begin_of net (over j forward) ≢ end_of net (over j forward)
+apart_over : (net : Network) (j : ℕ) (forward : Bool) → IsBounded net → j < length net.arcs
+    → begin_of net (over j forward) ≢ end_of net (over j forward)
 apart_over net j true good l same = good.no_loops j l same
 apart_over net j false good l same = good.no_loops j l (sym same)
 

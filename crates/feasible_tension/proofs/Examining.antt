@@ -77,7 +77,8 @@ passed-lowered net j v w low high t s bound node ends is passed node_is made =
       pace = s;
       over_arc = passed.over_arc;
       finite = subst IsFinite (sym end) refl;
-      above = above_over net v.potentials s.arc.0 s.forward bound t (is ∙ ap (tension net («at» v.potentials)) (sym passed.over_arc)) (ap whole end) passed.passed;
+      above = above_over net v.potentials s.arc.0 s.forward bound t
+          (is ∙ ap (tension net («at» v.potentials)) (sym passed.over_arc)) (ap whole end) passed.passed;
       node_is = node_is;
       made = made;
     }

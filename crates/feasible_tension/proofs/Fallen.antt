@@ -86,7 +86,8 @@ falling net r i w good relaxing held (suc count) =
     falling-more net r i count w (label_at w.labels (back net w.labels count i)) good relaxing held falls refl)
     (falling net r i w good relaxing held count)
 
-falls-far : (stamp : ℕ → ℕ) (count : ℕ) → ((t : ℕ) → t < count → stamp (suc t) < stamp t) → (a b : ℕ) → a < b → b ≤ count → stamp b < stamp a
+falls-far : (stamp : ℕ → ℕ) (count : ℕ) → ((t : ℕ) → t < count → stamp (suc t) < stamp t) → (a b : ℕ) → a < b → b ≤ count
+    → stamp b < stamp a
 falls-far stamp count falls a zero before l = absurd (omega arith)
 falls-far stamp count falls a (suc b) before l =
     let here = falls b (omega arith) in

@@ -18,7 +18,7 @@ use Rattle.painted_search.specs.Path.{label_at}
 use Rattle.feasible_tension.specs.Back.{back, IsOnCircuit}
 use Rattle.feasible_tension.specs.Kept.{IsKept}
 use Rattle.feasible_tension.specs.Relaxing.{IsRelaxing}
-use Rattle.feasible_tension.specs.Round.{IsRound}
+use Rattle.feasible_tension.specs.Lap.{IsLap}
 use Rattle.feasible_tension.proofs.Bounded.{IsBounded}
 use Rattle.feasible_tension.proofs.Rounds.{parent-labelled}
 use Rattle.feasible_tension.proofs.Pigeons.{differ-few}
@@ -64,11 +64,12 @@ pub comes-again : (net : Network) (labels : List (Option Step)) (root period a b
 comes-again net labels root period a b between again sum within same =
     let rest = period - a in
     let way = λ (t : ℕ). back net labels t root in
-    let round : way (between + period) ≡ way between = sym (back-sum net labels between period (between + period) root refl) ∙ ap (back net labels between) again in
+    let longer : way (between + period) ≡ way between =
+    sym (back-sum net labels between period (between + period) root refl) ∙ ap (back net labels between) again in
     let once : way period ≡ way (between + period) =
     sym (back-sum net labels rest a period root (omega arith)) ∙ ap (back net labels rest) same
     ∙ back-sum net labels rest b (between + period) root (omega arith) in
-    sym round ∙ sym once ∙ again
+    sym longer ∙ sym once ∙ again
 
 -- ---- room for a step, and the label for it
 
@@ -201,11 +202,11 @@ going-some w new s room made =
     let count = ap (λ (r : Room). length r.walk) (made room) ∙ length-append w.walk (s ∷ []) in
     omega arith
 
--- ---- round
+-- ---- a whole lap
 
-pub going-round : (net : Network) (v w : Room) (root node : ℕ) → IsGoing net v w root node → 0 < length w.walk → node ≡ root
-    → IsRound net v.labels root w.walk
-going-round net v w root node going some is =
+pub going-lap : (net : Network) (v w : Room) (root node : ℕ) → IsGoing net v w root node → 0 < length w.walk → node ≡ root
+    → IsLap net v.labels root w.walk
+going-lap net v w root node going some is =
     let u_same = ap («at» v.potentials) is in
     let stamp_same = ap going.relaxed.1.stamp is in
     let least = going.least in

@@ -75,7 +75,8 @@ clock-most r k m n round turn few_nodes few_arcs =
     let nodes = mul-le-mul_right {m = n} {n = 10 ^ 6} m few_nodes in
     omega arith
 
-pub small-between : (u : List ℤ) (most : ℕ) → most ≤ 10 ^ 18 → ((i : ℕ) → «at» u i ≤ℤ pos 0) → ((i : ℕ) → i < length u → neg_ℤ (pos most) ≤ℤ «at» u i)
+pub small-between : (u : List ℤ) (most : ℕ) → most ≤ 10 ^ 18 → ((i : ℕ) → «at» u i ≤ℤ pos 0)
+    → ((i : ℕ) → i < length u → neg_ℤ (pos most) ≤ℤ «at» u i)
     → AreSmall u
 small-between u most few high low = record {
   low = λ i l. let least = low i l in omega (arith, ints);
@@ -90,7 +91,8 @@ relaxing-small net r k n c w before round turn few_nodes few_arcs =
 
 -- ---- a label for each round
 
-pub parent-labelled : (net : Network) (labels : List (Option Step)) (i : ℕ) (s : Step) → label_at labels i ≡ Some s → parent net labels i ≡ begin_of net s
+pub parent-labelled : (net : Network) (labels : List (Option Step)) (i : ℕ) (s : Step) → label_at labels i ≡ Some s
+    → parent net labels i ≡ begin_of net s
 parent-labelled net labels i s is = ap (begin_or net i) is
 
 stamp-back : (net : Network) (r : ℕ) (w : Room) (node : NodeId) → (before : IsRelaxing net r (length net.arcs) (Some node) w)

@@ -1,6 +1,6 @@
 -- Back along labels:
 pub mod Back
-pub mod Round
+pub mod Lap
 -- Potentials that are lowered until they fit:
 pub mod Bounds
 pub mod Kept

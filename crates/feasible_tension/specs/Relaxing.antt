@@ -1,6 +1,6 @@
 -- How potentials are lowered: in rounds, each of which examines every arc once. The clock counts examined arcs; the stamp of a
 -- node is the clock when it was lowered last, 0 if it never was, and an arc was seen when it was examined last, 0 if never.
--- Stamps are said of, and not kept by the program.
+-- Both are spoken of in proofs alone: the program keeps neither.
 use Rattle.std.specs.Prelude.{◌≡◌, ℕ, suc, ◌+◌, ◌-◌, ◌*◌, ◌%◌, ◌<◌, ◌≤◌, ◌==◌, if◌then◌else◌, ℤ, pos, neg_ℤ, ◌≤ℤ◌, Option, Some, None, IfSome, List, length}
 use Rattle.theory.specs.declared.network.NodeId.{NodeId}
 use Rattle.theory.specs.declared.network.Step.{Step}

@@ -6,7 +6,7 @@ ghost use Rattle.painted_search.specs.Unpriced.{unpriced, IsPassable};
 ghost use Rattle.feasible_tension.specs.Back.{parent, IsDeep, IsOnCircuit};
 ghost use Rattle.feasible_tension.specs.Kept.{IsKept};
 ghost use Rattle.feasible_tension.specs.Relaxing.{IsRelaxing};
-ghost use Rattle.feasible_tension.specs.Round.{IsRound};
+ghost use Rattle.feasible_tension.specs.Lap.{IsLap};
 
 use crate::relaxing::Spans;
 use mono_curve::Monotone;
@@ -24,7 +24,7 @@ impl<C: Monotone> Spans<'_, C> {
         ensures kept { IsKept work.old work.new }
     {
         let root = self.far_back(from, work);
-        self.go_round(root, work);
+        self.walk_lap(root, work);
         work.turn_walk();
     }
 
@@ -57,13 +57,13 @@ impl<C: Monotone> Spans<'_, C> {
         }
     }
 
-    /// Makes the walk the labels on the circuit, from the node back to it.
-    fn go_round(&self, root: NodeId, work: &mut Work)
+    /// Makes the walk one lap of the circuit: the labels from the node back to it.
+    fn walk_lap(&self, root: NodeId, work: &mut Work)
         requires passable { IsPassable self.now.net.now (length self.now.curves.now) }
         requires fits { Fits self.now.net.now work.old }
         requires relaxed { (rounds : ℕ) × IsRelaxing (unpriced self.now.net.now (map C.items self.now.curves.now)) rounds 0 None work.old }
         requires on_circuit { IsOnCircuit (unpriced self.now.net.now (map C.items self.now.curves.now)) work.old.labels root.0 }
-        ensures round { IsRound (unpriced self.now.net.now (map C.items self.now.curves.now)) work.old.labels root.0 work.new.walk }
+        ensures lap { IsLap (unpriced self.now.net.now (map C.items self.now.curves.now)) work.old.labels root.0 work.new.walk }
         ensures kept { IsKept work.old work.new }
     {
         work.clear_walk();

@@ -29,7 +29,8 @@ lower-requires-clause-within g c =
     let ends = ends-read g.C.Monotone.items c.args.self.now.net.now c.args.self.now.curves.now c.index-self-arc.result c.args.arc.0
     c.span-low.result.0 c.span-low.result.1 (omega (arith, c.requires.there, c.requires.passable.one_curve_each))
     c.span-low.ensures.low c.span-low.ensures.high in
-    let passed : IsPassedBy c.args.arc.0 c.span-low.result.0 c.span-low.result.1 (to_z w64 (of_z w64 c.tension-tension.result)) c.in_ok-step.step c.in_ok-step.bound =
+    let passed : IsPassedBy c.args.arc.0 c.span-low.result.0 c.span-low.result.1 (to_z w64 (of_z w64 c.tension-tension.result))
+    c.in_ok-step.step c.in_ok-step.bound =
     c.in_ok-step.ensures.passed in
     let end = passed-end net c.args.arc.0 c.span-low.result.0 c.span-low.result.1 _ c.in_ok-step.step c.in_ok-step.bound ends passed in
     let bound_fits : SFits w64 c.in_ok-step.bound = search rules in
@@ -46,7 +47,8 @@ lower-requires-clause-bound g c =
     let ends = ends-read g.C.Monotone.items c.args.self.now.net.now c.args.self.now.curves.now c.index-self-arc.result c.args.arc.0
     c.span-low.result.0 c.span-low.result.1 (omega (arith, c.requires.there, c.requires.passable.one_curve_each))
     c.span-low.ensures.low c.span-low.ensures.high in
-    let passed : IsPassedBy c.args.arc.0 c.span-low.result.0 c.span-low.result.1 (to_z w64 (of_z w64 c.tension-tension.result)) c.in_ok-step.step c.in_ok-step.bound =
+    let passed : IsPassedBy c.args.arc.0 c.span-low.result.0 c.span-low.result.1 (to_z w64 (of_z w64 c.tension-tension.result))
+    c.in_ok-step.step c.in_ok-step.bound =
     c.in_ok-step.ensures.passed in
     let end = passed-end net c.args.arc.0 c.span-low.result.0 c.span-low.result.1 _ c.in_ok-step.step c.in_ok-step.bound ends passed in
     let bound_fits : SFits w64 c.in_ok-step.bound = search rules in
@@ -62,7 +64,8 @@ returns-clause-examined g c =
     let fits : SFits w64 c.tension-tension.result = search rules in
     let tension_is = tension-read c.args.self.now.net.now lists c.args.work.now.potentials c.potentials.result.now c.args.arc.0
     c.tension-tension.result fits c.tension-tension.ensures c.potentials.ensures in
-    let passed : IsPassedBy c.args.arc.0 c.span-low.result.0 c.span-low.result.1 (to_z w64 (of_z w64 c.tension-tension.result)) c.in_ok-step.step c.in_ok-step.bound =
+    let passed : IsPassedBy c.args.arc.0 c.span-low.result.0 c.span-low.result.1 (to_z w64 (of_z w64 c.tension-tension.result))
+    c.in_ok-step.step c.in_ok-step.bound =
     c.in_ok-step.ensures.passed in
     let end = passed-end net c.args.arc.0 c.span-low.result.0 c.span-low.result.1 _ c.in_ok-step.step c.in_ok-step.bound ends passed in
     passed-lowered net c.args.arc.0 c.args.work.now c.lower.new.work c.span-low.result.0 c.span-low.result.1 _ c.in_ok-step.step c.in_ok-step.bound

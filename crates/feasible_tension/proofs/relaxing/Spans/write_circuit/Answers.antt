@@ -3,7 +3,7 @@ use Rattle.theory.specs.Circuit.{IsNegativeCircuit}
 use Rattle.painted_search.specs.Room.{Room}
 use Rattle.painted_search.specs.Unpriced.{unpriced}
 use Rattle.feasible_tension.proofs.Bounded.{bounded}
-use Rattle.feasible_tension.proofs.Turning.{round-circuit}
+use Rattle.feasible_tension.proofs.Turning.{lap-circuit}
 use Rattle.feasible_tension.proofs.relaxing.Spans.write_circuit.Goals as goal
 
 pub returns-clause-circuit : goal.returns-clause-circuit
@@ -11,6 +11,6 @@ returns-clause-circuit g c =
     let net = unpriced c.args.self.now.net.now (map g.C.Monotone.items c.args.self.now.curves.now) in
     let good = bounded g.C.Monotone.items c.args.self.now.net.now c.args.self.now.curves.now c.requires.passable.one_curve_each
     g.met.C.Monotone.is_list g.met.C.Monotone.items_within in
-    let circuit = round-circuit net c.requires.relaxed.0 c.far_back-root.result.0 c.args.work.now c.go_round.new.work.walk good c.requires.relaxed.1
-    c.go_round.ensures.round in
+    let circuit = lap-circuit net c.requires.relaxed.0 c.far_back-root.result.0 c.args.work.now c.walk_lap.new.work.walk good c.requires.relaxed.1
+    c.walk_lap.ensures.lap in
     subst (IsNegativeCircuit net) (sym (ap (λ (w : Room). w.walk) c.turn_walk.ensures)) circuit

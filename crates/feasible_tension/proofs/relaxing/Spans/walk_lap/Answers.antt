@@ -2,8 +2,8 @@ use Rattle.std.proofs.Common.{◌≡◌, ◌≢◌, map, length, sym, ap, rules,
 use Rattle.painted_search.specs.Room.{Room}
 use Rattle.painted_search.specs.Unpriced.{unpriced}
 use Rattle.feasible_tension.proofs.Bounded.{bounded}
-use Rattle.feasible_tension.proofs.Going.{going-start, going-room, going-labelled, going-step, going-more, going-less, going-some, going-round}
-use Rattle.feasible_tension.proofs.relaxing.Spans.go_round.Goals as goal
+use Rattle.feasible_tension.proofs.Going.{going-start, going-room, going-labelled, going-step, going-more, going-less, going-some, going-lap}
+use Rattle.feasible_tension.proofs.relaxing.Spans.walk_lap.Goals as goal
 
 pub loop-step-init : goal.loop-step-init
 loop-step-init g c = record {
@@ -25,8 +25,8 @@ begin-node-requires g c =
     (going-step (unpriced c.args.self.now.net.now (map g.C.Monotone.items c.args.self.now.curves.now)) c.args.work.now c.loop-step.work c.args.root.0
     c.loop-step.node.0 c.in-Some.step c.loop-step.invariant.going c.in-Some.ensures).there
 
-pub returns-then-eq-clause-round : goal.returns-then-eq-clause-round
-returns-then-eq-clause-round g c =
+pub returns-then-eq-clause-lap : goal.returns-then-eq-clause-lap
+returns-then-eq-clause-lap g c =
     let net = unpriced c.args.self.now.net.now (map g.C.Monotone.items c.args.self.now.curves.now) in
     let good = bounded g.C.Monotone.items c.args.self.now.net.now c.args.self.now.curves.now c.requires.passable.one_curve_each
     g.met.C.Monotone.is_list g.met.C.Monotone.items_within in
@@ -36,7 +36,7 @@ returns-then-eq-clause-round g c =
     c.in-Some.step good c.loop-step.invariant.going c.loop-step.invariant.is_open c.requires.fits.same_nodes c.in-Some.ensures
     c.push_step.ensures c.begin-node.ensures in
     let same : c.begin-node.result.0 ≡ c.args.root.0 = search rules in
-    going-round net c.args.work.now c.push_step.new.self c.args.root.0 c.begin-node.result.0 more
+    going-lap net c.args.work.now c.push_step.new.self c.args.root.0 c.begin-node.result.0 more
     (going-some c.loop-step.work c.push_step.new.self c.in-Some.step room c.push_step.ensures) same
 
 pub returns-then-eq-clause-kept : goal.returns-then-eq-clause-kept

@@ -1,4 +1,4 @@
--- Once round a circuit of labels, backward: the walk holds the labels from a node back to it, and meets the node at its end alone.
+-- A lap of a circuit of labels, backward: the walk holds the labels from a node back to it, and meets the node at its end alone.
 -- Turned round it is a circuit, and its span sum is below 0.
 use Rattle.std.specs.Prelude.{◌≡◌, ◌≢◌, ℕ, ◌<◌, pos, ◌<ℤ◌, Option, Some, List, length, reverse}
 use Rattle.theory.specs.declared.network.Step.{Step}
@@ -7,7 +7,7 @@ use Rattle.theory.specs.Circuit.{step, SpanCounts, span_sum}
 use Rattle.painted_search.specs.Path.{label_at}
 use Rattle.feasible_tension.specs.Back.{back}
 
-pub record IsRound (net : Network) (labels : List (Option Step)) (root : ℕ) (walk : List Step) : Type 0 where
+pub record IsLap (net : Network) (labels : List (Option Step)) (root : ℕ) (walk : List Step) : Type 0 where
   pub some : 0 < length walk
   pub led : (k : ℕ) → k < length walk → label_at labels (back net labels k root) ≡ Some (step walk k)
   pub comes_again : back net labels (length walk) root ≡ root

@@ -1,7 +1,7 @@
 use Rattle.std.proofs.Common.{◌-◌, map, length}
 use Rattle.painted_search.specs.Unpriced.{unpriced}
 use Rattle.feasible_tension.proofs.Going.{IsGoing, IsOpen}
-use Rattle.feasible_tension.proofs.relaxing.Spans.go_round.Given as goal
+use Rattle.feasible_tension.proofs.relaxing.Spans.walk_lap.Given as goal
 
 abbrev pub invariant-loop-step : goal.invariant-loop-step
 invariant-loop-step g l = record {
