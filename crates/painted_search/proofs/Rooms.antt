@@ -58,6 +58,12 @@ clones-none IsClone never (Some s) clone = absurd (never s clone)
 abbrev pub with_front : Room → List ℤ → Lists
 with_front w potentials = record (lists w) { potentials = potentials }
 
+abbrev pub with_labels : Room → List (Option Step) → Lists
+with_labels w labels = record (lists w) { labels = labels }
+
+pub with_labels-same : (v w : Room) (l l' : List (Option Step)) → v ≡ w → l ≡ l' → with_labels v l ≡ with_labels w l'
+with_labels-same v w l l' room labels = ap (λ (v : Room). with_labels v l) room ∙ ap (with_labels w) labels
+
 abbrev pub with_search : Room → List Bool → List (Option Step) → List Step → Lists
 with_search w reached labels walk = record (lists w) { reached = reached; labels = labels; walk = walk }
 

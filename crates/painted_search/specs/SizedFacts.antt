@@ -53,3 +53,11 @@ sized-label w i s =
 
 pub sized-turned : (w : Room) → IsSized w.nodes w.arcs w.flows w.potentials w.reached w.labels (reverse w.walk)
 sized-turned w = resized w.sized refl refl refl refl (let e = length-reverse w.walk in omega (arith, w.sized.short_walk))
+
+pub sized-unlabelled : (w : Room) → IsSized w.nodes w.arcs w.flows w.potentials w.reached (replicate w.nodes None) w.walk
+sized-unlabelled w =
+    resized w.sized refl refl refl (length-replicate w.nodes None ∙ sym w.sized.one_label_each) w.sized.short_walk
+
+pub sized-relabelled : (w : Room) (i : ℕ) (s : Step)
+    → IsSized w.nodes w.arcs w.flows w.potentials w.reached (slice_set w.labels i (Some s)) w.walk
+sized-relabelled w i s = resized w.sized refl refl refl (length-set w.labels i (Some s)) w.sized.short_walk

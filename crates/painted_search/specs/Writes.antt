@@ -1,8 +1,8 @@
 -- Writes: the room with one part changed.
-use Rattle.std.specs.Prelude.{ℕ, ◌<◌, ℤ, List, [], ◌∷◌, ◌++◌, length, slice_set}
+use Rattle.std.specs.Prelude.{ℕ, ◌<◌, ℤ, Some, None, List, [], ◌∷◌, ◌++◌, length, replicate, slice_set}
 use Rattle.theory.specs.declared.network.Step.{Step}
 use Rattle.painted_search.specs.Room.{Room, overwritten}
-use Rattle.painted_search.specs.SizedFacts.{sized-flow, sized-potential, sized-potentials, sized-no_walk, sized-step}
+use Rattle.painted_search.specs.SizedFacts.{sized-flow, sized-potential, sized-potentials, sized-no_walk, sized-step, sized-unlabelled, sized-relabelled}
 
 abbrev pub with_flow : Room → ℕ → ℤ → Room
 with_flow w j x = record w { flows = slice_set w.flows j x; sized = sized-flow w j x }
@@ -18,3 +18,11 @@ with_no_walk w = record w { walk = []; sized = sized-no_walk w }
 
 abbrev pub with_step : (w : Room) (s : Step) → length w.walk < w.nodes → Room
 with_step w s room = record w { walk = w.walk ++ s ∷ []; sized = sized-step w s room }
+
+-- no label anywhere
+abbrev pub unlabelled : Room → Room
+unlabelled w = record w { labels = replicate w.nodes None; sized = sized-unlabelled w }
+
+-- node i labelled by a step, and marked as it was
+abbrev pub relabelled : Room → ℕ → Step → Room
+relabelled w i s = record w { labels = slice_set w.labels i (Some s); sized = sized-relabelled w i s }

@@ -47,7 +47,7 @@ impl Work {
     ghost use Rattle.theory.specs.Cut.{holds};
     ghost use Rattle.theory.specs.Circuit.{step};
     ghost use Rattle.painted_search.specs.Room.{count_most, IsEmpty};
-    ghost use Rattle.painted_search.specs.Writes.{with_flow, with_potential, with_no_walk, with_step};
+    ghost use Rattle.painted_search.specs.Writes.{with_flow, with_potential, with_no_walk, with_step, unlabelled, relabelled};
     ghost use Rattle.painted_search.specs.Reaching.{begun, with_reached, with_turned_walk};
     ghost use Rattle.painted_search.specs.Lending.{LendsPotentials};
 
@@ -117,12 +117,26 @@ impl Work {
         self.marks[node.0 as usize]
     }
 
-    /// The step by which the last search reached the node; `search` says where there is none.
+    /// The step that the node was labelled by last; `search` says where there is none.
     pub fn label(&self, node: NodeId) -> Option<Step>
         requires { node.0 < self.now.nodes }
         ensures { result ≡ slice_index_or self.now.labels node.0 None }
     {
         self.labels[node.0 as usize]
+    }
+
+    /// Labels the node, without a mark.
+    pub fn set_label(&mut self, node: NodeId, step: Step)
+        requires { node.0 < self.old.nodes }
+        ensures { self.new ≡ relabelled self.old node.0 step }
+    {
+        self.labels[node.0 as usize] = Some(step);
+    }
+
+    pub fn clear_labels(&mut self)
+        ensures { self.new ≡ unlabelled self.old }
+    {
+        self.labels.as_mut_slice().fill(None);
     }
 
     pub fn walk_len(&self) -> usize
@@ -212,7 +226,8 @@ impl Work {
         self.push_step(step);
     }
 
-    pub(crate) fn turn_walk(&mut self)
+    /// Reverses the order of the walk's steps.
+    pub fn turn_walk(&mut self)
         ensures { self.new ≡ with_turned_walk self.old }
     {
         self.walk.reverse();

@@ -1,12 +1,8 @@
-use Rattle.std.proofs.Common.{◌≡◌, map, ◌∷◌, length, ap, ◌∙◌, arith}
+use Rattle.std.proofs.Common.{map, ◌∷◌, ap, ◌∙◌, arith}
 use Rattle.std.proofs.lemmas.List.{length-map}
-use Rattle.theory.specs.Network.{«at»}
-use Rattle.theory.proofs.Unbounded.{sent, sent_round}
-use Rattle.painted_search.specs.Room.{Room}
-use Rattle.feasible_flow.specs.Gaps.{most_gap, near_most}
+use Rattle.theory.proofs.Unbounded.{sent_round}
 use Rattle.feasible_flow.proofs.Lists.{are-curves}
-use Rattle.feasible_flow.proofs.Sending.{sends-fits, sent-within}
-use Rattle.feasible_flow.proofs.AllGaps.{nearer-sent, need-within, flow-within}
+use Rattle.feasible_flow.proofs.Rounds.{nearer-sent, need-within}
 use Rattle.feasible_flow.proofs.CutSum.{negative-cut}
 use Rattle.feasible_flow.proofs.domains.Domains.send_round.Goals as goal
 

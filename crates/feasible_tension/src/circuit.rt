@@ -1,0 +1,79 @@
+// How a negative circuit is found and written: back along the labels.
+ghost use Rattle.std.specs.Prelude.{◌≡◌, ℕ, ◌<◌, None, length, map};
+ghost use Rattle.theory.specs.Circuit.{IsNegativeCircuit};
+ghost use Rattle.painted_search.specs.Fits.{Fits};
+ghost use Rattle.painted_search.specs.Unpriced.{unpriced, IsPassable};
+ghost use Rattle.feasible_tension.specs.Back.{parent, IsDeep, IsOnCircuit};
+ghost use Rattle.feasible_tension.specs.Kept.{IsKept};
+ghost use Rattle.feasible_tension.specs.Relaxing.{IsRelaxing};
+ghost use Rattle.feasible_tension.specs.Lap.{IsLap};
+
+use crate::relaxing::Spans;
+use mono_curve::Monotone;
+use painted_search::Work;
+use theory::NodeId;
+
+impl<C: Monotone> Spans<'_, C> {
+    /// Writes the circuit to which the labels lead back from the node.
+    pub(crate) fn write_circuit(&self, from: NodeId, work: &mut Work)
+        requires passable { IsPassable self.now.net.now (length self.now.curves.now) }
+        requires fits { Fits self.now.net.now work.old }
+        requires relaxed { (rounds : ℕ) × IsRelaxing (unpriced self.now.net.now (map C.items self.now.curves.now)) rounds 0 None work.old }
+        requires deep { IsDeep (unpriced self.now.net.now (map C.items self.now.curves.now)) work.old.labels self.now.net.now.nodes from.0 }
+        ensures circuit { IsNegativeCircuit (unpriced self.now.net.now (map C.items self.now.curves.now)) work.new.walk }
+        ensures kept { IsKept work.old work.new }
+    {
+        let root = self.far_back(from, work);
+        self.walk_lap(root, work);
+        work.turn_walk();
+    }
+
+    /// As many labels back as there are nodes: on a circuit.
+    fn far_back(&self, from: NodeId, work: &Work) -> NodeId
+        requires passable { IsPassable self.now.net.now (length self.now.curves.now) }
+        requires fits { Fits self.now.net.now work.now }
+        requires relaxed { (rounds : ℕ) × IsRelaxing (unpriced self.now.net.now (map C.items self.now.curves.now)) rounds 0 None work.now }
+        requires deep { IsDeep (unpriced self.now.net.now (map C.items self.now.curves.now)) work.now.labels self.now.net.now.nodes from.0 }
+        ensures { IsOnCircuit (unpriced self.now.net.now (map C.items self.now.curves.now)) work.now.labels result.0 }
+    {
+        let mut node = from;
+        for _ in 0..self.net.nodes() {
+            node = self.parent(node, work);
+        }
+        node
+    }
+
+    /// Where the node's label begins.
+    fn parent(&self, node: NodeId, work: &Work) -> NodeId
+        requires passable { IsPassable self.now.net.now (length self.now.curves.now) }
+        requires fits { Fits self.now.net.now work.now }
+        requires relaxed { (rounds : ℕ) × IsRelaxing (unpriced self.now.net.now (map C.items self.now.curves.now)) rounds 0 None work.now }
+        requires there { node.0 < self.now.net.now.nodes }
+        ensures { result.0 ≡ parent (unpriced self.now.net.now (map C.items self.now.curves.now)) work.now.labels node.0 }
+    {
+        match work.label(node) {
+            Some(step) => self.net.begin(step),
+            None => node,
+        }
+    }
+
+    /// Makes the walk one lap of the circuit: the labels from the node back to it.
+    fn walk_lap(&self, root: NodeId, work: &mut Work)
+        requires passable { IsPassable self.now.net.now (length self.now.curves.now) }
+        requires fits { Fits self.now.net.now work.old }
+        requires relaxed { (rounds : ℕ) × IsRelaxing (unpriced self.now.net.now (map C.items self.now.curves.now)) rounds 0 None work.old }
+        requires on_circuit { IsOnCircuit (unpriced self.now.net.now (map C.items self.now.curves.now)) work.old.labels root.0 }
+        ensures lap { IsLap (unpriced self.now.net.now (map C.items self.now.curves.now)) work.old.labels root.0 work.new.walk }
+        ensures kept { IsKept work.old work.new }
+    {
+        work.clear_walk();
+        let mut node = root;
+        while let Some(step) = work.label(node) {
+            work.push_step(step);
+            node = self.net.begin(step);
+            if node == root {
+                return;
+            }
+        }
+    }
+}
