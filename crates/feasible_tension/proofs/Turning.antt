@@ -10,7 +10,7 @@ use Rattle.theory.specs.declared.network.Step.{Step}
 use Rattle.theory.specs.Sums.{Each}
 use Rattle.theory.specs.Ends.{IsFinite, whole}
 use Rattle.theory.specs.Network.{Network}
-use Rattle.theory.specs.Circuit.{step, begin_of, end_of, span_end, span_sum, SpanCounts, IsNegativeCircuit}
+use Rattle.theory.specs.Circuit.{step, begin_of, end_of, span_end, span_sum, SpanCounts, WalkIsThere, IsNegativeCircuit}
 use Rattle.net_incidence.specs.Incidence.{over}
 use Rattle.painted_search.specs.Room.{Room}
 use Rattle.feasible_tension.specs.Back.{back}
@@ -44,6 +44,12 @@ turned net r root v walk relaxing lap k l =
       begins = ap (begin_of net) is ∙ sym (parent-labelled net v.labels (back net v.labels p root) (step walk p) led);
       ends = ap (end_of net) is ∙ label.ends;
     }
+
+pub lap-there : (net : Network) (r root : ℕ) (v : Room) (walk : List Step) → IsRelaxing net r 0 None v → IsLap net v.labels root walk
+    → WalkIsThere net (reverse walk)
+lap-there net r root v walk relaxing lap k l =
+    let same = length-reverse walk in
+    (turned net r root v walk relaxing lap k (omega (arith, same, l))).there
 
 -- nodes on the way round are different
 differ : (net : Network) (labels : List (Option Step)) (root : ℕ) (walk : List Step) → IsLap net labels root walk → (a b : ℕ) → 0 < a → a < b

@@ -1,6 +1,6 @@
 // How a negative circuit is found and written: back along the labels.
 ghost use Rattle.std.specs.Prelude.{◌≡◌, ℕ, ◌<◌, None, length, map};
-ghost use Rattle.theory.specs.Circuit.{IsNegativeCircuit};
+ghost use Rattle.theory.specs.Circuit.{IsNegativeCircuit, WalkIsThere};
 ghost use Rattle.painted_search.specs.Fits.{Fits};
 ghost use Rattle.painted_search.specs.Unpriced.{unpriced, IsPassable};
 ghost use Rattle.feasible_tension.specs.Back.{parent, IsDeep, IsOnCircuit};
@@ -21,6 +21,7 @@ impl<C: Monotone> Spans<'_, C> {
         requires relaxed { (rounds : ℕ) × IsRelaxing (unpriced self.now.net.now (map C.items self.now.curves.now)) rounds 0 None work.old }
         requires deep { IsDeep (unpriced self.now.net.now (map C.items self.now.curves.now)) work.old.labels self.now.net.now.nodes from.0 }
         ensures circuit { IsNegativeCircuit (unpriced self.now.net.now (map C.items self.now.curves.now)) work.new.walk }
+        ensures there { WalkIsThere (unpriced self.now.net.now (map C.items self.now.curves.now)) work.new.walk }
         ensures kept { IsKept work.old work.new }
     {
         let root = self.far_back(from, work);

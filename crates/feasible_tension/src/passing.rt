@@ -4,7 +4,7 @@ ghost use Rattle.std.specs.List.{All};
 ghost use Rattle.theory.specs.Limits.{number_most, IsWithin};
 ghost use Rattle.theory.specs.Network.{«at»};
 ghost use Rattle.theory.specs.Feasible.{IsFeasiblePotential};
-ghost use Rattle.theory.specs.Circuit.{IsNegativeCircuit};
+ghost use Rattle.theory.specs.Circuit.{IsNegativeCircuit, WalkIsThere};
 ghost use Rattle.net_incidence.specs.FlowAlong.{AreSmall};
 ghost use Rattle.painted_search.specs.Fits.{Fits};
 ghost use Rattle.painted_search.specs.Path.{label_at};
@@ -42,6 +42,7 @@ pub fn feasible_tension<C: Monotone, L: Ledger>(
     ensures within { result ≡ TensionAns.Potential → (i : ℕ) → i < net.now.nodes
         → IsWithin (net.now.nodes * number_most) («at» work.new.potentials i) }
     ensures circuit { result ≡ TensionAns.Circuit → IsNegativeCircuit (unpriced net.now (map C.items curves.now)) work.new.walk }
+    ensures there { result ≡ TensionAns.Circuit → WalkIsThere (unpriced net.now (map C.items curves.now)) work.new.walk }
     ensures flows { work.new.flows ≡ work.old.flows }
     ensures fits { Fits net.now work.new }
     ensures no_fewer { steps.old ≤ steps.new }

@@ -1,9 +1,9 @@
 use Rattle.std.proofs.Common.{map, sym, ap, subst}
-use Rattle.theory.specs.Circuit.{IsNegativeCircuit}
+use Rattle.theory.specs.Circuit.{IsNegativeCircuit, WalkIsThere}
 use Rattle.painted_search.specs.Room.{Room}
 use Rattle.painted_search.specs.Unpriced.{unpriced}
 use Rattle.feasible_tension.proofs.Bounded.{bounded}
-use Rattle.feasible_tension.proofs.Turning.{lap-circuit}
+use Rattle.feasible_tension.proofs.Turning.{lap-circuit, lap-there}
 use Rattle.feasible_tension.proofs.relaxing.Spans.write_circuit.Goals as goal
 
 pub returns-clause-circuit : goal.returns-clause-circuit
@@ -14,3 +14,10 @@ returns-clause-circuit g c =
     let circuit = lap-circuit net c.requires.relaxed.0 c.far_back-root.result.0 c.args.work.now c.walk_lap.new.work.walk good c.requires.relaxed.1
     c.walk_lap.ensures.lap in
     subst (IsNegativeCircuit net) (sym (ap (λ (w : Room). w.walk) c.turn_walk.ensures)) circuit
+
+pub returns-clause-there : goal.returns-clause-there
+returns-clause-there g c =
+    let net = unpriced c.args.self.now.net.now (map g.C.Monotone.items c.args.self.now.curves.now) in
+    let there = lap-there net c.requires.relaxed.0 c.far_back-root.result.0 c.args.work.now c.walk_lap.new.work.walk c.requires.relaxed.1
+    c.walk_lap.ensures.lap in
+    subst (WalkIsThere net) (sym (ap (λ (w : Room). w.walk) c.turn_walk.ensures)) there
