@@ -1,0 +1,46 @@
+use Rattle.std.proofs.Common.{◌≡◌, ◌+◌, ◌*◌, ◌<◌, ◌≤◌, length, ap, ◌∙◌, arith}
+use Rattle.std.proofs.Math.Nat.{mul-le-mul_left}
+use Rattle.theory.specs.declared.network.Step.{Step}
+use Rattle.theory.specs.Circuit.{step}
+use Rattle.theory.proofs.Unbounded.{sent}
+use Rattle.painted_search.specs.Room.{Room, most_count}
+use Rattle.feasible_flow.specs.Gaps.{near_most}
+use Rattle.feasible_flow.proofs.Sending.{sends-fits, sent-on, sent-within}
+use Rattle.feasible_flow.proofs.moving.send_along.Goals as goal
+
+pub send-requires-clause-fits : goal.send-requires-clause-fits
+send-requires-clause-fits c =
+    let w = c.loop-k.work in
+    let short = w.sized.short_walk in
+    let few = w.sized.few_nodes in
+    let same_length = ap length c.loop-k.invariant.same.walk in
+    let l : c.loop-k.k < length w.walk = omega (arith, c.loop-k-test.true, c.walk_len-k-end.ensures, same_length) in
+    let within : c.loop-k.k ≤ most_count = omega (arith, l, short, few) in
+    let moved = mul-le-mul_left c.args.amount within in
+    sends-fits (near_most + c.loop-k.k * c.args.amount) c.args.amount _ _ (c.loop-k.invariant.near c.walk_step-step.result.arc.0)
+    (omega (arith, moved, c.requires.amount_near))
+
+pub loop-k-preserved : goal.loop-k-preserved
+loop-k-preserved c =
+    let w = c.loop-k.work in
+    let same = c.loop-k.invariant.same in
+    let s = c.walk_step-step.result in
+    let same_length = ap length same.walk in
+    let l : c.loop-k.k < length w.walk = omega (arith, c.loop-k-test.true, c.walk_len-k-end.ensures, same_length) in
+    let there = c.requires.there c.loop-k.k (omega (arith, l, same_length)) in
+    let arc = ap (λ (t : Step). t.arc.0) c.walk_step-step.ensures ∙ ap (λ walk. (step walk c.loop-k.k).arc.0) same.walk in
+    let on_arc : s.arc.0 < length w.flows = omega (arith, there, arc, w.sized.one_flow_each, same.arcs) in
+    let grown : near_most + c.loop-k.k * c.args.amount + c.args.amount ≤ near_most + (c.loop-k.k + 1) * c.args.amount = omega arith in
+    let flows : c.send.new.work.flows ≡ sent c.args.amount s w.flows = ap (λ (v : Room). v.flows) c.send.ensures in
+    let walk : c.send.new.work.walk ≡ w.walk = ap (λ (v : Room). v.walk) c.send.ensures in
+    record {
+      left = rw (flows, walk) (sent-on c.args.amount w.walk c.loop-k.k w.flows s l c.walk_step-step.ensures ∙ c.loop-k.invariant.left);
+      near = λ j. rw flows (sent-within (near_most + c.loop-k.k * c.args.amount) (near_most + (c.loop-k.k + 1) * c.args.amount) c.args.amount s w.flows on_arc
+          grown c.loop-k.invariant.near j);
+      same = record {
+        nodes = ap (λ (v : Room). v.nodes) c.send.ensures ∙ same.nodes;
+        arcs = ap (λ (v : Room). v.arcs) c.send.ensures ∙ same.arcs;
+        potentials = ap (λ (v : Room). v.potentials) c.send.ensures ∙ same.potentials;
+        walk = walk ∙ same.walk;
+      };
+    }

@@ -1,0 +1,40 @@
+-- Flows on the way to their domains: conserved, and none further from 0 than the gaps have fallen together.
+use Rattle.std.specs.Prelude.{◌≡◌, ℕ, ◌+◌, ◌*◌, ◌≤◌, ◌<◌, ℤ, pos, ◌+ℤ◌, ◌≤ℤ◌, List, length}
+use Rattle.theory.specs.declared.ext.Ext.{Ext}
+use Rattle.theory.specs.declared.network.Step.{Step}
+use Rattle.theory.specs.Network.{«at»}
+use Rattle.theory.specs.Conserved.{IsConserved}
+use Rattle.theory.specs.Circuit.{step}
+use Rattle.net_incidence.specs.Graph.{Graph, bare}
+use Rattle.painted_search.specs.Room.{Room}
+use Rattle.feasible_flow.specs.Painting.{list_at}
+use Rattle.feasible_flow.specs.Gaps.{gap_at, total_gap, most_gap, HasRoom}
+
+pub record IsUnderWay (g : Graph) (lists : List (List Ext)) (x : List ℤ) : Type 0 where
+  pub one_each : length x ≡ length g.arcs
+  pub conserved : IsConserved (bare g) («at» x)
+  pub high : (j : ℕ) → («at» x j +ℤ pos (total_gap (length g.arcs) lists x)) ≤ℤ pos (most_gap (length g.arcs))
+  pub low : (j : ℕ) → pos (total_gap (length g.arcs) lists x) ≤ℤ («at» x j +ℤ pos (most_gap (length g.arcs)))
+
+-- no gap is greater than it was
+abbrev pub AreNoFurther : List (List Ext) → List ℤ → List ℤ → Type 0
+AreNoFurther lists x y = (j : ℕ) → gap_at lists y j ≤ gap_at lists x j
+
+-- each step of the walk has room for the amount
+abbrev pub AllHaveRoom : List (List Ext) → List ℤ → List Step → ℕ → Type 0
+AllHaveRoom lists x walk amount =
+    (k : ℕ) → k < length walk → HasRoom (list_at lists (step walk k).arc.0) («at» x (step walk k).arc.0) (step walk k).forward amount
+
+-- ---- what it costs
+
+-- the most readings of one search with the look along its path, and of the look at the arc before it
+abbrev pub round_cost : ℕ → ℕ → ℕ
+round_cost n m = 2 * m + n + 1
+
+-- ---- a room whose flows alone were written
+
+pub record IsSameButFlows (v w : Room) : Type 0 where
+  pub nodes : w.nodes ≡ v.nodes
+  pub arcs : w.arcs ≡ v.arcs
+  pub potentials : w.potentials ≡ v.potentials
+  pub walk : w.walk ≡ v.walk

@@ -1,0 +1,91 @@
+// Bringing one arc's flow into its domain, without a gap grown elsewhere.
+ghost use Rattle.std.specs.Prelude.{◌≡◌, ◌+◌, ◌*◌, ◌<◌, ◌≤◌, true, false, length, map};
+ghost use Rattle.std.specs.List.{All};
+ghost use Rattle.theory.specs.Network.{«at»};
+ghost use Rattle.theory.specs.Cut.{IsNegativeCut};
+ghost use Rattle.painted_search.specs.Fits.{Fits};
+ghost use Rattle.painted_search.specs.Unpriced.{IsPassable, unpriced};
+ghost use Rattle.feasible_flow.specs.Painting.{list_at};
+ghost use Rattle.feasible_flow.specs.Gaps.{gap_at, total_gap, IsNeed};
+ghost use Rattle.feasible_flow.specs.UnderWay.{IsUnderWay, AreNoFurther, round_cost};
+
+use crate::domains::{Domains, Need};
+use crate::moving::{send, send_along};
+use mono_curve::{Monotone, Steps};
+use net_incidence::{ArcId, Net};
+use painted_search::{Found, Work, search};
+use std::sync::ledger::Ledger;
+
+impl<'a, C: Monotone> Domains<'a, C> {
+    /// Moves flow round the arc until it is in its domain. False where it can't be: the reached set is a negative cut.
+    pub(crate) fn settle<L: Ledger>(
+        &self,
+        net: &Net,
+        arc: ArcId,
+        work: &mut Work,
+        steps: &mut Steps<L>,
+    ) -> bool
+        requires passable { IsPassable net.now (length self.now.curves.now) }
+        requires light { All (λ c. C.weight c ≡ 1) self.now.curves.now }
+        requires there { arc.0 < length net.now.arcs }
+        requires fits { Fits net.now work.old }
+        requires under_way { IsUnderWay net.now (map C.items self.now.curves.now) work.old.flows }
+        ensures settled { result ≡ true → gap_at (map C.items self.now.curves.now) work.new.flows arc.0 ≡ 0 }
+        ensures cut { result ≡ false → IsNegativeCut (unpriced net.now (map C.items self.now.curves.now)) work.new.reached }
+        ensures under_way { IsUnderWay net.now (map C.items self.now.curves.now) work.new.flows }
+        ensures no_further { AreNoFurther (map C.items self.now.curves.now) work.old.flows work.new.flows }
+        ensures potentials { work.new.potentials ≡ work.old.potentials }
+        ensures fits { Fits net.now work.new }
+        ensures no_fewer { steps.old ≤ steps.new }
+        ensures count { let m = length net.now.arcs in let cost = round_cost net.now.nodes m in
+            steps.new + total_gap m (map C.items self.now.curves.now) work.new.flows * cost
+            ≤ steps.old + total_gap m (map C.items self.now.curves.now) work.old.flows * cost + cost }
+    {
+        while let Some(need) = self.need_of(arc, work, steps) {
+            if !self.send_round(net, need, work, steps) {
+                return false;
+            }
+        }
+        true
+    }
+
+    /// Moves flow over the need's step, as much as it lacks and a path back to its beginning has room for. False where
+    /// there is no path.
+    fn send_round<L: Ledger>(
+        &self,
+        net: &Net,
+        need: Need,
+        work: &mut Work,
+        steps: &mut Steps<L>,
+    ) -> bool
+        requires passable { IsPassable net.now (length self.now.curves.now) }
+        requires light { All (λ c. C.weight c ≡ 1) self.now.curves.now }
+        requires there { need.step.arc.0 < length net.now.arcs }
+        requires fits { Fits net.now work.old }
+        requires under_way { IsUnderWay net.now (map C.items self.now.curves.now) work.old.flows }
+        requires need { IsNeed (list_at (map C.items self.now.curves.now) need.step.arc.0) («at» work.old.flows need.step.arc.0)
+            need.step.forward need.amount }
+        ensures cut { result ≡ false → IsNegativeCut (unpriced net.now (map C.items self.now.curves.now)) work.new.reached }
+        ensures still { result ≡ false → work.new.flows ≡ work.old.flows }
+        ensures under_way { IsUnderWay net.now (map C.items self.now.curves.now) work.new.flows }
+        ensures no_further { AreNoFurther (map C.items self.now.curves.now) work.old.flows work.new.flows }
+        ensures falls { result ≡ true
+            → total_gap (length net.now.arcs) (map C.items self.now.curves.now) work.new.flows + 1
+            ≤ total_gap (length net.now.arcs) (map C.items self.now.curves.now) work.old.flows }
+        ensures potentials { work.new.potentials ≡ work.old.potentials }
+        ensures fits { Fits net.now work.new }
+        ensures no_fewer { steps.old ≤ steps.new }
+        ensures count { steps.new + 1 ≤ steps.old + round_cost net.now.nodes (length net.now.arcs) }
+    {
+        let (from, to) = (net.end(need.step), net.begin(need.step));
+        match search(net, self, from, to, work, steps) {
+            Found::Cut => false,
+            Found::Path => {
+                let amount = self.room_along(work, need.amount, steps);
+                send(work, need.step, amount);
+                send_along(work, amount);
+                true
+            }
+        }
+    }
+}
