@@ -7,3 +7,6 @@ mod passing;
 mod settling;
 
 pub use passing::{FlowAns, feasible_flow};
+
+#[cfg(test)]
+mod tests;
