@@ -12,7 +12,7 @@ use Rattle.theory.specs.Limits.{IsWithin, number_most}
 use Rattle.theory.specs.Network.{«at», tail, head}
 use Rattle.theory.specs.Conserved.{IsConserved, divergence}
 use Rattle.theory.specs.Circuit.{step, begin_of, end_of, IsCircuit, WalkIsThere}
-use Rattle.theory.proofs.Unbounded.{sends, sent, sent_round, brought, mark_of}
+use Rattle.theory.proofs.Unbounded.{sends, sent_round, brought, mark_of}
 use Rattle.theory.proofs.Refusals.{around}
 use Rattle.theory.proofs.SumsBelow.{sum_below-zero}
 use Rattle.theory.proofs.SumLaw.{divergence-conserved}
@@ -21,7 +21,7 @@ use Rattle.painted_search.specs.Path.{IsFreePath}
 use Rattle.painted_search.proofs.Counting.{total_below, total_below-order}
 use Rattle.feasible_flow.specs.Painting.{list_at, painting}
 use Rattle.feasible_flow.specs.Gaps.{IsNeed, gap, gap_at, total_gap, most_gap, needed, HasRoom}
-use Rattle.feasible_flow.specs.UnderWay.{IsUnderWay, AreNoFurther, AllHaveRoom}
+use Rattle.feasible_flow.specs.UnderWay.{IsUnderWay, AreNoFurther, IsNearer, AllHaveRoom}
 use Rattle.feasible_flow.proofs.OneGap.{gap-no_further, gap-falls, gap-most, need-room, needed-most}
 use Rattle.feasible_flow.proofs.Lists.{AreCurves}
 use Rattle.feasible_flow.proofs.Closing.{closes}
@@ -169,21 +169,16 @@ is-sent_round g lists x walk s need amount from to curves way there lacks from_i
     all_rooms few zero l = need-room (list_at lists s.arc.0) («at» x s.arc.0) s.forward amount (curves.are_lists s.arc.0) some few
     all_rooms few (suc k) l = rooms k (omega arith)
 
--- what a round does to the flows
-pub record IsNearer (g : Graph) (lists : List (List Ext)) (x y : List ℤ) : Type 0 where
-  pub under_way : IsUnderWay g lists y
-  pub no_further : AreNoFurther lists x y
-  pub falls : total_gap (length g.arcs) lists y + 1 ≤ total_gap (length g.arcs) lists x
-
-pub nearer-sent : (g : Graph) (lists : List (List Ext)) (x w y : List ℤ) (walk : List Step) (s : Step) (need amount from to : ℕ)
+-- a round brings the flows nearer
+pub nearer-sent : (g : Graph) (lists : List (List Ext)) (x y : List ℤ) (walk : List Step) (s : Step) (need amount from to : ℕ)
     → AreCurves lists → IsUnderWay g lists x → s.arc.0 < length g.arcs
     → IsNeed (list_at lists s.arc.0) («at» x s.arc.0) s.forward need → from ≡ end_of (bare g) s → to ≡ begin_of (bare g) s
     → IsFreePath (bare g) (painting lists x) walk from to → 1 ≤ amount → amount ≤ need → AllHaveRoom lists x walk amount
-    → w ≡ sent amount s x → y ≡ sent_round amount walk w → IsNearer g lists x y
-nearer-sent g lists x w y walk s need amount from to curves way there lacks from_is to_is path some most rooms first_sent all_sent =
+    → y ≡ sent_round amount (s ∷ walk) x → IsNearer g lists x y
+nearer-sent g lists x y walk s need amount from to curves way there lacks from_is to_is path some most rooms round_is =
     let round = is-sent_round g lists x walk s need amount from to curves way there lacks from_is to_is path some most rooms in
     let falls = total-falls g lists amount (s ∷ walk) x round in
-    rw (all_sent, first_sent)
+    rw round_is
     (record {
       under_way = under_way-sent g lists amount (s ∷ walk) x way round;
       no_further = no_further-sent g lists amount (s ∷ walk) x round;

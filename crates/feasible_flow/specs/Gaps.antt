@@ -71,9 +71,9 @@ distance PlusInf x = 2 ^ 64 - 1
 
 -- ---- ranges
 
--- twice the most that flows of 0 can lack together: no flow is further from 0 on the way
+-- the most that the gaps of a net add up to where all flows are 0: no flow is further from 0 on the way
 abbrev pub near_most : ℕ
-near_most = 2 * most_gap most_count
+near_most = most_gap most_count
 
-abbrev pub AreNear : List ℤ → Type 0
-AreNear x = (j : ℕ) → IsWithin near_most («at» x j)
+abbrev pub AreNear : ℕ → List ℤ → Type 0
+AreNear most x = (j : ℕ) → IsWithin most («at» x j)

@@ -20,16 +20,16 @@ pub record IsUnderWay (g : Graph) (lists : List (List Ext)) (x : List ℤ) : Typ
 abbrev pub AreNoFurther : List (List Ext) → List ℤ → List ℤ → Type 0
 AreNoFurther lists x y = (j : ℕ) → gap_at lists y j ≤ gap_at lists x j
 
+-- still under way, and the total gap is less
+pub record IsNearer (g : Graph) (lists : List (List Ext)) (x y : List ℤ) : Type 0 where
+  pub under_way : IsUnderWay g lists y
+  pub no_further : AreNoFurther lists x y
+  pub falls : total_gap (length g.arcs) lists y + 1 ≤ total_gap (length g.arcs) lists x
+
 -- each step of the walk has room for the amount
 abbrev pub AllHaveRoom : List (List Ext) → List ℤ → List Step → ℕ → Type 0
 AllHaveRoom lists x walk amount =
     (k : ℕ) → k < length walk → HasRoom (list_at lists (step walk k).arc.0) («at» x (step walk k).arc.0) (step walk k).forward amount
-
--- ---- what it costs
-
--- the most readings of one search with the look along its path, and of the look at the arc before it
-abbrev pub round_cost : ℕ → ℕ → ℕ
-round_cost n m = 2 * m + n + 1
 
 -- ---- a room whose flows alone were written
 
@@ -38,3 +38,9 @@ pub record IsSameButFlows (v w : Room) : Type 0 where
   pub arcs : w.arcs ≡ v.arcs
   pub potentials : w.potentials ≡ v.potentials
   pub walk : w.walk ≡ v.walk
+
+-- ---- what it costs
+
+-- the most readings of one search with the look along its path, and of the look at the arc before it
+abbrev pub round_cost : ℕ → ℕ → ℕ
+round_cost n m = 2 * m + n + 1

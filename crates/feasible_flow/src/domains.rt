@@ -55,7 +55,7 @@ impl<'a, C: Monotone> Domains<'a, C> {
         requires there { arc.0 < length self.now.curves.now }
         requires one_each { length work.now.flows ≡ length self.now.curves.now }
         requires light { All (λ c. C.weight c ≡ 1) self.now.curves.now }
-        requires near { AreNear work.now.flows }
+        requires near { AreNear near_most work.now.flows }
         ensures need { IsNeedOf (map C.items self.now.curves.now) work.now.flows arc.0 result }
         ensures no_fewer { steps.old ≤ steps.new }
         ensures count { steps.new ≤ steps.old + 1 }
@@ -91,7 +91,7 @@ impl<'a, C: Monotone> Domains<'a, C> {
     ) -> u64
         requires one_each { length work.now.flows ≡ length self.now.curves.now }
         requires light { All (λ c. C.weight c ≡ 1) self.now.curves.now }
-        requires near { AreNear work.now.flows }
+        requires near { AreNear near_most work.now.flows }
         requires there { (k : ℕ) → k < length work.now.walk → (step work.now.walk k).arc.0 < length self.now.curves.now }
         requires free { AllFree (painting (map C.items self.now.curves.now) work.now.flows) work.now.walk }
         requires some { 1 ≤ amount }
@@ -113,7 +113,7 @@ impl<'a, C: Monotone> Domains<'a, C> {
         requires there { step.arc.0 < length self.now.curves.now }
         requires one_each { length work.now.flows ≡ length self.now.curves.now }
         requires light { All (λ c. C.weight c ≡ 1) self.now.curves.now }
-        requires near { AreNear work.now.flows }
+        requires near { AreNear near_most work.now.flows }
         requires free { IsFreeStep (painting (map C.items self.now.curves.now) work.now.flows) step }
         ensures some { 1 ≤ result }
         ensures room { (amount : ℕ) → amount ≤ result

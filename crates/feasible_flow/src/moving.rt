@@ -1,8 +1,8 @@
 // Moving flow along steps.
-ghost use Rattle.std.specs.Prelude.{◌≡◌, ℕ, ◌^◌, ◌<◌, ◌≤◌, pos, ◌+ℤ◌, FitsSigned, length};
+ghost use Rattle.std.specs.Prelude.{◌≡◌, ℕ, ◌*◌, ◌^◌, ◌<◌, ◌≤◌, pos, ◌+ℤ◌, FitsSigned, ◌∷◌, length};
 ghost use Rattle.std.specs.Int.{w64};
 ghost use Rattle.theory.specs.Network.{«at»};
-ghost use Rattle.theory.specs.Circuit.{step};
+ghost use Rattle.theory.specs.Circuit.{step as step_of};
 ghost use Rattle.theory.proofs.Unbounded.{sends, sent, sent_round};
 ghost use Rattle.painted_search.specs.Room.{with_flow};
 ghost use Rattle.feasible_flow.specs.Gaps.{near_most, AreNear};
@@ -21,10 +21,23 @@ pub(crate) fn clear_flows(work: &mut Work)
     }
 }
 
+/// Moves the amount over the step and along the walk.
+pub(crate) fn send_around(work: &mut Work, step: Step, amount: u64)
+    requires step_there { step.arc.0 < work.old.arcs }
+    requires walk_there { (k : ℕ) → k < length work.old.walk → (step_of work.old.walk k).arc.0 < work.old.arcs }
+    requires near { AreNear near_most work.old.flows }
+    requires amount_near { amount ≤ near_most }
+    ensures flows { work.new.flows ≡ sent_round amount (step ∷ work.old.walk) work.old.flows }
+    ensures same { IsSameButFlows work.old work.new }
+{
+    send(work, step, amount);
+    send_along(work, amount);
+}
+
 /// Moves the amount along the walk.
-pub(crate) fn send_along(work: &mut Work, amount: u64)
-    requires there { (k : ℕ) → k < length work.old.walk → (step work.old.walk k).arc.0 < work.old.arcs }
-    requires near { AreNear work.old.flows }
+fn send_along(work: &mut Work, amount: u64)
+    requires there { (k : ℕ) → k < length work.old.walk → (step_of work.old.walk k).arc.0 < work.old.arcs }
+    requires near { AreNear (2 * near_most) work.old.flows }
     requires amount_near { amount ≤ near_most }
     ensures flows { work.new.flows ≡ sent_round amount work.old.walk work.old.flows }
     ensures same { IsSameButFlows work.old work.new }
@@ -36,7 +49,7 @@ pub(crate) fn send_along(work: &mut Work, amount: u64)
 }
 
 /// Moves the amount over the step's arc, in the direction of the step.
-pub(crate) fn send(work: &mut Work, step: Step, amount: u64)
+fn send(work: &mut Work, step: Step, amount: u64)
     requires there { step.arc.0 < work.old.arcs }
     requires small { amount < 2 ^ 63 }
     requires fits { FitsSigned w64 («at» work.old.flows step.arc.0 +ℤ sends amount step.forward) }

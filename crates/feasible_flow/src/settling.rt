@@ -7,10 +7,10 @@ ghost use Rattle.painted_search.specs.Fits.{Fits};
 ghost use Rattle.painted_search.specs.Unpriced.{IsPassable, unpriced};
 ghost use Rattle.feasible_flow.specs.Painting.{list_at};
 ghost use Rattle.feasible_flow.specs.Gaps.{gap_at, total_gap, IsNeed};
-ghost use Rattle.feasible_flow.specs.UnderWay.{IsUnderWay, AreNoFurther, round_cost};
+ghost use Rattle.feasible_flow.specs.UnderWay.{IsUnderWay, AreNoFurther, IsNearer, round_cost};
 
 use crate::domains::{Domains, Need};
-use crate::moving::{send, send_along};
+use crate::moving::send_around;
 use mono_curve::{Monotone, Steps};
 use net_incidence::{ArcId, Net};
 use painted_search::{Found, Work, search};
@@ -67,11 +67,7 @@ impl<'a, C: Monotone> Domains<'a, C> {
             need.step.forward need.amount }
         ensures cut { result ≡ false → IsNegativeCut (unpriced net.now (map C.items self.now.curves.now)) work.new.reached }
         ensures still { result ≡ false → work.new.flows ≡ work.old.flows }
-        ensures under_way { IsUnderWay net.now (map C.items self.now.curves.now) work.new.flows }
-        ensures no_further { AreNoFurther (map C.items self.now.curves.now) work.old.flows work.new.flows }
-        ensures falls { result ≡ true
-            → total_gap (length net.now.arcs) (map C.items self.now.curves.now) work.new.flows + 1
-            ≤ total_gap (length net.now.arcs) (map C.items self.now.curves.now) work.old.flows }
+        ensures nearer { result ≡ true → IsNearer net.now (map C.items self.now.curves.now) work.old.flows work.new.flows }
         ensures potentials { work.new.potentials ≡ work.old.potentials }
         ensures fits { Fits net.now work.new }
         ensures no_fewer { steps.old ≤ steps.new }
@@ -82,8 +78,7 @@ impl<'a, C: Monotone> Domains<'a, C> {
             Found::Cut => false,
             Found::Path => {
                 let amount = self.room_along(work, need.amount, steps);
-                send(work, need.step, amount);
-                send_along(work, amount);
+                send_around(work, need.step, amount);
                 true
             }
         }

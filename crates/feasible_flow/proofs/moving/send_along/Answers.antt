@@ -17,7 +17,7 @@ send-requires-clause-fits c =
     let l : c.loop-k.k < length w.walk = omega (arith, c.loop-k-test.true, c.walk_len-k-end.ensures, same_length) in
     let within : c.loop-k.k ≤ most_count = omega (arith, l, short, few) in
     let moved = mul-le-mul_left c.args.amount within in
-    sends-fits (near_most + c.loop-k.k * c.args.amount) c.args.amount _ _ (c.loop-k.invariant.near c.walk_step-step.result.arc.0)
+    sends-fits (2 * near_most + c.loop-k.k * c.args.amount) c.args.amount _ _ (c.loop-k.invariant.near c.walk_step-step.result.arc.0)
     (omega (arith, moved, c.requires.amount_near))
 
 pub loop-k-preserved : goal.loop-k-preserved
@@ -30,12 +30,12 @@ loop-k-preserved c =
     let there = c.requires.there c.loop-k.k (omega (arith, l, same_length)) in
     let arc = ap (λ (t : Step). t.arc.0) c.walk_step-step.ensures ∙ ap (λ walk. (step walk c.loop-k.k).arc.0) same.walk in
     let on_arc : s.arc.0 < length w.flows = omega (arith, there, arc, w.sized.one_flow_each, same.arcs) in
-    let grown : near_most + c.loop-k.k * c.args.amount + c.args.amount ≤ near_most + (c.loop-k.k + 1) * c.args.amount = omega arith in
+    let grown : 2 * near_most + c.loop-k.k * c.args.amount + c.args.amount ≤ 2 * near_most + (c.loop-k.k + 1) * c.args.amount = omega arith in
     let flows : c.send.new.work.flows ≡ sent c.args.amount s w.flows = ap (λ (v : Room). v.flows) c.send.ensures in
     let walk : c.send.new.work.walk ≡ w.walk = ap (λ (v : Room). v.walk) c.send.ensures in
     record {
       left = rw (flows, walk) (sent-on c.args.amount w.walk c.loop-k.k w.flows s l c.walk_step-step.ensures ∙ c.loop-k.invariant.left);
-      near = λ j. rw flows (sent-within (near_most + c.loop-k.k * c.args.amount) (near_most + (c.loop-k.k + 1) * c.args.amount) c.args.amount s w.flows on_arc
+      near = λ j. rw flows (sent-within (2 * near_most + c.loop-k.k * c.args.amount) (2 * near_most + (c.loop-k.k + 1) * c.args.amount) c.args.amount s w.flows on_arc
           grown c.loop-k.invariant.near j);
       same = record {
         nodes = ap (λ (v : Room). v.nodes) c.send.ensures ∙ same.nodes;

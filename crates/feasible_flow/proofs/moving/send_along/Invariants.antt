@@ -9,6 +9,6 @@ use Rattle.feasible_flow.proofs.moving.send_along.Given as goal
 abbrev pub invariant-loop-k : goal.invariant-loop-k
 invariant-loop-k l = record {
   left : sent_round l.fn.amount (drop l.k l.work.walk) l.work.flows ≡ sent_round l.fn.amount l.initial.work.walk l.initial.work.flows;
-  near : (j : ℕ) → IsWithin (near_most + l.k * l.fn.amount) («at» l.work.flows j);
+  near : (j : ℕ) → IsWithin (2 * near_most + l.k * l.fn.amount) («at» l.work.flows j);
   same : IsSameButFlows l.initial.work l.work;
 }
