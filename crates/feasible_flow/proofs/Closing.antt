@@ -11,8 +11,8 @@ use Rattle.theory.specs.Circuit.{step, begin_of, end_of, IsCircuit}
 use Rattle.net_incidence.specs.Graph.{Graph, bare}
 use Rattle.painted_search.specs.Path.{IsFreePath}
 use Rattle.feasible_flow.specs.Painting.{list_at, painting}
-use Rattle.feasible_flow.specs.Gaps.{needed}
-use Rattle.feasible_flow.proofs.OneGap.{need-not_free}
+use Rattle.feasible_flow.specs.Violations.{needed}
+use Rattle.feasible_flow.proofs.OneArc.{need-not_free}
 
 -- the ends of a step are different nodes
 pub ends-apart : (g : Graph) (s : Step) → s.arc.0 < length g.arcs → end_of (bare g) s ≢ begin_of (bare g) s

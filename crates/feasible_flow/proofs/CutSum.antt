@@ -24,9 +24,9 @@ use Rattle.net_incidence.specs.PartOf.{crossing_end}
 use Rattle.painted_search.specs.Path.{IsFreeCut}
 use Rattle.painted_search.specs.Unpriced.{unpriced}
 use Rattle.feasible_flow.specs.Painting.{list_at, shade, domain_colour, painting}
-use Rattle.feasible_flow.specs.Gaps.{missing, surplus, needed}
+use Rattle.feasible_flow.specs.Violations.{missing, surplus, needed}
 use Rattle.feasible_flow.proofs.DomainEnds.{AreEnds, both, from_a_point, to_a_point, everywhere, list-ends}
-use Rattle.feasible_flow.proofs.OneGap.{positive_part-is}
+use Rattle.feasible_flow.proofs.OneArc.{positive_part-is}
 use Rattle.feasible_flow.proofs.Lists.{AreCurves, unpriced-items, unpriced-network}
 
 -- ---- one end

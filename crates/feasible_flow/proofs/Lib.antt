@@ -1,11 +1,11 @@
--- Curves and gaps, one arc at a time:
+-- Curves and violations, one arc at a time:
 pub mod DomainEnds
-pub mod OneGap
+pub mod OneArc
 -- All arcs:
 pub mod Lists
 pub mod Sending
 pub mod Closing
-pub mod AllGaps
+pub mod Rounds
 pub mod CutSum
 -- What it costs:
 pub mod Spent

@@ -1,5 +1,5 @@
 -- How domains paint a net:
 pub mod Painting
 -- What flows lack to their domains, and how they stand on the way there:
-pub mod Gaps
+pub mod Violations
 pub mod UnderWay

@@ -1,4 +1,4 @@
--- Flows on the way to their domains: conserved, and none further from 0 than the gaps have fallen together.
+-- Flows on the way to their domains: conserved, and none further from 0 than the violations have fallen together.
 use Rattle.std.specs.Prelude.{◌≡◌, ℕ, ◌+◌, ◌*◌, ◌≤◌, ◌<◌, ℤ, pos, ◌+ℤ◌, ◌≤ℤ◌, List, length}
 use Rattle.theory.specs.declared.ext.Ext.{Ext}
 use Rattle.theory.specs.declared.network.Step.{Step}
@@ -8,23 +8,23 @@ use Rattle.theory.specs.Circuit.{step}
 use Rattle.net_incidence.specs.Graph.{Graph, bare}
 use Rattle.painted_search.specs.Room.{Room}
 use Rattle.feasible_flow.specs.Painting.{list_at}
-use Rattle.feasible_flow.specs.Gaps.{gap_at, total_gap, most_gap, HasRoom}
+use Rattle.feasible_flow.specs.Violations.{violation_at, total_violation, most_violation, HasRoom}
 
 pub record IsUnderWay (g : Graph) (lists : List (List Ext)) (x : List ℤ) : Type 0 where
   pub one_each : length x ≡ length g.arcs
   pub conserved : IsConserved (bare g) («at» x)
-  pub high : (j : ℕ) → («at» x j +ℤ pos (total_gap (length g.arcs) lists x)) ≤ℤ pos (most_gap (length g.arcs))
-  pub low : (j : ℕ) → pos (total_gap (length g.arcs) lists x) ≤ℤ («at» x j +ℤ pos (most_gap (length g.arcs)))
+  pub high : (j : ℕ) → («at» x j +ℤ pos (total_violation (length g.arcs) lists x)) ≤ℤ pos (most_violation (length g.arcs))
+  pub low : (j : ℕ) → pos (total_violation (length g.arcs) lists x) ≤ℤ («at» x j +ℤ pos (most_violation (length g.arcs)))
 
--- no gap is greater than it was
+-- no violation is greater than it was
 abbrev pub AreNoFurther : List (List Ext) → List ℤ → List ℤ → Type 0
-AreNoFurther lists x y = (j : ℕ) → gap_at lists y j ≤ gap_at lists x j
+AreNoFurther lists x y = (j : ℕ) → violation_at lists y j ≤ violation_at lists x j
 
--- still under way, and the total gap is less
+-- still under way, and the total violation is less
 pub record IsNearer (g : Graph) (lists : List (List Ext)) (x y : List ℤ) : Type 0 where
   pub under_way : IsUnderWay g lists y
   pub no_further : AreNoFurther lists x y
-  pub falls : total_gap (length g.arcs) lists y + 1 ≤ total_gap (length g.arcs) lists x
+  pub falls : total_violation (length g.arcs) lists y + 1 ≤ total_violation (length g.arcs) lists x
 
 -- each step of the walk has room for the amount
 abbrev pub AllHaveRoom : List (List Ext) → List ℤ → List Step → ℕ → Type 0
@@ -41,6 +41,10 @@ pub record IsSameButFlows (v w : Room) : Type 0 where
 
 -- ---- what it costs
 
--- the most readings of one search with the look along its path, and of the look at the arc before it
+-- the most readings of a look at one arc, a search and a look along the path that it found
 abbrev pub round_cost : ℕ → ℕ → ℕ
 round_cost n m = 2 * m + n + 1
+
+-- the most readings that the violations can still cost, with a round for each unit
+abbrev pub readings_left : Graph → List (List Ext) → List ℤ → ℕ
+readings_left g lists x = total_violation (length g.arcs) lists x * round_cost g.nodes (length g.arcs)

@@ -8,7 +8,7 @@ ghost use Rattle.theory.specs.Network.{«at»};
 ghost use Rattle.theory.specs.Circuit.{step};
 ghost use Rattle.painted_search.specs.Path.{IsFreeStep, AllFree};
 ghost use Rattle.feasible_flow.specs.Painting.{list_at, shade, painting};
-ghost use Rattle.feasible_flow.specs.Gaps.{missing, surplus, distance, near_most, IsNeedOf, HasRoom, AreNear};
+ghost use Rattle.feasible_flow.specs.Violations.{missing, surplus, distance, near_most, IsNeedOf, HasRoom, AreNear};
 ghost use Rattle.feasible_flow.specs.UnderWay.{AllHaveRoom};
 
 use mono_curve::{Ext, Monotone, Steps};

@@ -5,7 +5,7 @@ ghost use Rattle.theory.specs.Network.{«at»};
 ghost use Rattle.theory.specs.Circuit.{step as step_of};
 ghost use Rattle.theory.proofs.Unbounded.{sends, sent, sent_round};
 ghost use Rattle.painted_search.specs.Room.{with_flow};
-ghost use Rattle.feasible_flow.specs.Gaps.{near_most, AreNear};
+ghost use Rattle.feasible_flow.specs.Violations.{near_most, AreNear};
 ghost use Rattle.feasible_flow.specs.UnderWay.{IsSameButFlows};
 
 use net_incidence::{ArcId, Step};

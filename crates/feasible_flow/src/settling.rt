@@ -1,13 +1,13 @@
-// Bringing one arc's flow into its domain, without a gap grown elsewhere.
-ghost use Rattle.std.specs.Prelude.{◌≡◌, ◌+◌, ◌*◌, ◌<◌, ◌≤◌, true, false, length, map};
+// Bringing one arc's flow into its domain, and no other arc's flow further from its own.
+ghost use Rattle.std.specs.Prelude.{◌≡◌, ◌+◌, ◌<◌, ◌≤◌, true, false, length, map};
 ghost use Rattle.std.specs.List.{All};
 ghost use Rattle.theory.specs.Network.{«at»};
 ghost use Rattle.theory.specs.Cut.{IsNegativeCut};
 ghost use Rattle.painted_search.specs.Fits.{Fits};
 ghost use Rattle.painted_search.specs.Unpriced.{IsPassable, unpriced};
 ghost use Rattle.feasible_flow.specs.Painting.{list_at};
-ghost use Rattle.feasible_flow.specs.Gaps.{gap_at, total_gap, IsNeed};
-ghost use Rattle.feasible_flow.specs.UnderWay.{IsUnderWay, AreNoFurther, IsNearer, round_cost};
+ghost use Rattle.feasible_flow.specs.Violations.{violation_at, IsNeed};
+ghost use Rattle.feasible_flow.specs.UnderWay.{IsUnderWay, AreNoFurther, IsNearer, round_cost, readings_left};
 
 use crate::domains::{Domains, Need};
 use crate::moving::send_around;
@@ -30,16 +30,16 @@ impl<'a, C: Monotone> Domains<'a, C> {
         requires there { arc.0 < length net.now.arcs }
         requires fits { Fits net.now work.old }
         requires under_way { IsUnderWay net.now (map C.items self.now.curves.now) work.old.flows }
-        ensures settled { result ≡ true → gap_at (map C.items self.now.curves.now) work.new.flows arc.0 ≡ 0 }
+        ensures settled { result ≡ true → violation_at (map C.items self.now.curves.now) work.new.flows arc.0 ≡ 0 }
         ensures cut { result ≡ false → IsNegativeCut (unpriced net.now (map C.items self.now.curves.now)) work.new.reached }
         ensures under_way { IsUnderWay net.now (map C.items self.now.curves.now) work.new.flows }
         ensures no_further { AreNoFurther (map C.items self.now.curves.now) work.old.flows work.new.flows }
         ensures potentials { work.new.potentials ≡ work.old.potentials }
         ensures fits { Fits net.now work.new }
         ensures no_fewer { steps.old ≤ steps.new }
-        ensures count { let m = length net.now.arcs in let cost = round_cost net.now.nodes m in
-            steps.new + total_gap m (map C.items self.now.curves.now) work.new.flows * cost
-            ≤ steps.old + total_gap m (map C.items self.now.curves.now) work.old.flows * cost + cost }
+        ensures count { let lists = map C.items self.now.curves.now in
+            steps.new + readings_left net.now lists work.new.flows
+            ≤ steps.old + readings_left net.now lists work.old.flows + round_cost net.now.nodes (length net.now.arcs) }
     {
         while let Some(need) = self.need_of(arc, work, steps) {
             if !self.send_round(net, need, work, steps) {

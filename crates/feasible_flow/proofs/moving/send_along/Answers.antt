@@ -4,7 +4,7 @@ use Rattle.theory.specs.declared.network.Step.{Step}
 use Rattle.theory.specs.Circuit.{step}
 use Rattle.theory.proofs.Unbounded.{sent}
 use Rattle.painted_search.specs.Room.{Room, most_count}
-use Rattle.feasible_flow.specs.Gaps.{near_most}
+use Rattle.feasible_flow.specs.Violations.{near_most}
 use Rattle.feasible_flow.proofs.Sending.{sends-fits, sent-on, sent-within}
 use Rattle.feasible_flow.proofs.moving.send_along.Goals as goal
 

@@ -1,10 +1,10 @@
 use Rattle.std.proofs.Common.{◌+◌, ◌≤◌, map, length, ◌∙◌, arith}
 use Rattle.theory.specs.Network.{«at»}
 use Rattle.feasible_flow.specs.Painting.{list_at}
-use Rattle.feasible_flow.specs.Gaps.{total_gap}
-use Rattle.feasible_flow.proofs.OneGap.{inside}
+use Rattle.feasible_flow.specs.Violations.{total_violation}
+use Rattle.feasible_flow.proofs.OneArc.{inside}
 use Rattle.feasible_flow.proofs.Lists.{are-curves, unpriced-items}
-use Rattle.feasible_flow.proofs.AllGaps.{under_way-zero, total-most}
+use Rattle.feasible_flow.proofs.Rounds.{under_way-zero, total-most}
 use Rattle.feasible_flow.proofs.Spent.{begins-within, one-more, spent-most}
 use Rattle.feasible_flow.proofs.passing.feasible_flow.Goals as goal
 
@@ -22,7 +22,7 @@ loop-j-init g c =
       settled = λ k l. absurd (omega arith);
       potentials = same.potentials;
       no_fewer = omega arith;
-      count = begins-within c.args.net.now.nodes m (total_gap m lists w.flows) c.args.steps.now (total-most m lists w.flows curves c.clear_flows.ensures.zero);
+      count = begins-within c.args.net.now.nodes m (total_violation m lists w.flows) c.args.steps.now (total-most m lists w.flows curves c.clear_flows.ensures.zero);
     }
 
 pub returns-then-not-settle-clause-count : goal.returns-then-not-settle-clause-count
@@ -30,8 +30,8 @@ returns-then-not-settle-clause-count g c =
     let lists = map g.C.Monotone.items c.args.curves.now in
     let m = length c.args.net.now.arcs in
     let l : c.loop-j.j + 1 ≤ m = omega (arith, c.loop-j-test.true, c.arcs-j-end.ensures) in
-    spent-most c.args.net.now.nodes m (total_gap m lists c.settle.new.work.flows) (c.loop-j.j + 1) c.args.steps.now c.settle.new.steps l
-    (one-more c.args.net.now.nodes m (total_gap m lists c.loop-j.work.flows) (total_gap m lists c.settle.new.work.flows) c.loop-j.j
+    spent-most c.args.net.now.nodes m (total_violation m lists c.settle.new.work.flows) (c.loop-j.j + 1) c.args.steps.now c.settle.new.steps l
+    (one-more c.args.net.now.nodes m (total_violation m lists c.loop-j.work.flows) (total_violation m lists c.settle.new.work.flows) c.loop-j.j
     c.args.steps.now c.loop-j.steps c.settle.new.steps c.loop-j.invariant.count c.settle.ensures.count)
 
 pub returns-clause-flow : goal.returns-clause-flow
@@ -50,5 +50,5 @@ pub returns-clause-count : goal.returns-clause-count
 returns-clause-count g c =
     let lists = map g.C.Monotone.items c.args.curves.now in
     let m = length c.args.net.now.arcs in
-    spent-most c.args.net.now.nodes m (total_gap m lists c.loop-j.work.flows) c.loop-j.j c.args.steps.now c.loop-j.steps
+    spent-most c.args.net.now.nodes m (total_violation m lists c.loop-j.work.flows) c.loop-j.j c.args.steps.now c.loop-j.steps
     (omega (arith, c.loop-j.auto.j-end, c.arcs-j-end.ensures)) c.loop-j.invariant.count

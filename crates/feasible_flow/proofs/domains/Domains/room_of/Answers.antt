@@ -1,8 +1,8 @@
 use Rattle.std.proofs.Common.{get_or, ap, ◌∙◌, rules, w64, SFits, to_z-of_z}
 use Rattle.theory.specs.Network.{«at»}
-use Rattle.feasible_flow.specs.Gaps.{distance}
+use Rattle.feasible_flow.specs.Violations.{distance}
 use Rattle.feasible_flow.proofs.DomainEnds.{ahead-within}
-use Rattle.feasible_flow.proofs.OneGap.{room-ahead}
+use Rattle.feasible_flow.proofs.OneArc.{room-ahead}
 use Rattle.feasible_flow.proofs.Lists.{list-of}
 use Rattle.feasible_flow.proofs.domains.Domains.room_of.Goals as goal
 

@@ -2,7 +2,7 @@ use Rattle.std.proofs.Common.{map, ◌∷◌, ap, ◌∙◌, arith}
 use Rattle.std.proofs.lemmas.List.{length-map}
 use Rattle.theory.proofs.Unbounded.{sent_round}
 use Rattle.feasible_flow.proofs.Lists.{are-curves}
-use Rattle.feasible_flow.proofs.AllGaps.{nearer-sent, need-within}
+use Rattle.feasible_flow.proofs.Rounds.{nearer-sent, need-within}
 use Rattle.feasible_flow.proofs.CutSum.{negative-cut}
 use Rattle.feasible_flow.proofs.domains.Domains.send_round.Goals as goal
 

@@ -1,6 +1,6 @@
--- The gap of one arc. A flow that moves and stays on the near side of the end that it moves to has no greater gap after that:
--- it is not past this end, and it is no further past the other one. What is less than the flow lacked makes the gap as
--- much smaller.
+-- The violation of one arc. A flow that moves and stays on the near side of the end that it moves to has no greater
+-- violation after that: it is not past this end, and it is no further past the other one. What is no more than the flow
+-- lacked makes the violation as much smaller.
 use Rattle.std.proofs.Common.{◌≡◌, ℕ, ◌+◌, ◌≤◌, ℤ, pos, negsuc, ◌+ℤ◌, ◌-ℤ◌, neg_ℤ, ◌≤ℤ◌, Bool, true, false, List, refl, sym, not, if◌then◌else◌, ◌∙◌, arith}
 use Rattle.std.specs.Int.{int_max}
 use Rattle.std.proofs.lemmas.Int.{ints, clamps}
@@ -14,7 +14,7 @@ use Rattle.theory.specs.Painting.{IsFree}
 use Rattle.theory.specs.Limits.{IsWithin, number_most, AreWithin}
 use Rattle.theory.proofs.Unbounded.{sends}
 use Rattle.feasible_flow.specs.Painting.{shade, domain_colour}
-use Rattle.feasible_flow.specs.Gaps.{positive_part, missing, surplus, gap, needed, HasRoom, distance}
+use Rattle.feasible_flow.specs.Violations.{positive_part, missing, surplus, violation, needed, HasRoom, distance}
 use Rattle.feasible_flow.proofs.DomainEnds.{AreEnds, both, from_a_point, to_a_point, everywhere, list-ends, first-within, last-within}
 
 pub positive_part-is : (z : ℤ) → pos (positive_part z) ≡ int_max z (pos 0)
@@ -67,30 +67,30 @@ none-surplus PlusInf x none = tt
 
 -- ---- a domain
 
-pub inside : (items : List Ext) (x : ℤ) → gap items x ≡ 0 → InDomain 1 items x
+pub inside : (items : List Ext) (x : ℤ) → violation items x ≡ 0 → InDomain 1 items x
 inside items x none = record {
   least = none-missing (first items) x (omega arith);
   most = none-surplus (last items) x (omega arith);
 }
 
-pub gap-no_further : (items : List Ext) (x : ℤ) (forward : Bool) (t : ℕ) → HasRoom items x forward t
-    → gap items (x +ℤ sends t forward) ≤ gap items x
-gap-no_further items x true t room =
+pub violation-no_further : (items : List Ext) (x : ℤ) (forward : Bool) (t : ℕ) → HasRoom items x forward t
+    → violation items (x +ℤ sends t forward) ≤ violation items x
+violation-no_further items x true t room =
     let p = surplus-none (last items) (x +ℤ pos t) room in
     let q = missing-less (first items) x (x +ℤ pos t) (omega (arith, ints)) in
     omega arith
-gap-no_further items x false t room =
+violation-no_further items x false t room =
     let p = missing-none (first items) (x +ℤ neg_ℤ (pos t)) room in
     let q = surplus-less (last items) x (x +ℤ neg_ℤ (pos t)) (omega (arith, ints)) in
     omega arith
 
-pub gap-falls : (items : List Ext) (x : ℤ) (forward : Bool) (t : ℕ) → HasRoom items x forward t → t ≤ needed items x forward
-    → gap items (x +ℤ sends t forward) + t ≤ gap items x
-gap-falls items x true t room most =
+pub violation-falls : (items : List Ext) (x : ℤ) (forward : Bool) (t : ℕ) → HasRoom items x forward t → t ≤ needed items x forward
+    → violation items (x +ℤ sends t forward) + t ≤ violation items x
+violation-falls items x true t room most =
     let p = surplus-none (last items) (x +ℤ pos t) room in
     let q = missing-falls (first items) x t most in
     omega arith
-gap-falls items x false t room most =
+violation-falls items x false t room most =
     let p = missing-none (first items) (x +ℤ neg_ℤ (pos t)) room in
     let q = surplus-falls (last items) x t most in
     omega arith
@@ -127,8 +127,8 @@ ends-most (from_a_point {a = a}) under over = let p = positive_part-is (a -ℤ p
 ends-most (to_a_point {b = b}) under over = let q = positive_part-is (pos 0 -ℤ b) in let o = over.0 in omega (arith, ints, clamps)
 ends-most everywhere under over = omega arith
 
-pub gap-most : (items : List Ext) → IsCurveList items → AreWithin number_most items → gap items (pos 0) ≤ number_most
-gap-most items list within = ends-most (list-ends items list) (first-within items within) (last-within items list within)
+pub violation-most : (items : List Ext) → IsCurveList items → AreWithin number_most items → violation items (pos 0) ≤ number_most
+violation-most items list within = ends-most (list-ends items list) (first-within items within) (last-within items list within)
 
 -- ---- free steps
 
@@ -200,7 +200,7 @@ need-not_free items x false back some turned free =
     let f = surplus-not_free (last items) x some in
     false≢true (sym f ∙ e)
 
-pub needed-most : (items : List Ext) (x : ℤ) (forward : Bool) → needed items x forward ≤ gap items x
+pub needed-most : (items : List Ext) (x : ℤ) (forward : Bool) → needed items x forward ≤ violation items x
 needed-most items x true = omega arith
 needed-most items x false = omega arith
 

@@ -1,7 +1,7 @@
 -- An amount moved round a circuit of steps that all have room for it. Each arc's flow moves by the amount at most, and its
--- gap doesn't grow; the gap of the first arc, which lacks the amount, falls by it. So the total gap falls by the amount at
--- least, and each flow stays as near to 0 as the gaps have fallen together. What the steps of a circuit bring to a node
--- adds up to nothing, so the flow stays conserved.
+-- violation doesn't grow; that of the first arc, which lacks the amount, falls by it. So the total violation falls by the
+-- amount at least, and each flow stays as near to 0 as the violations have fallen together. What the steps of a circuit
+-- bring to a node adds up to nothing, so the flow stays conserved.
 use Rattle.std.proofs.Common.{◌≡◌, ◌≢◌, ℕ, zero, suc, ◌+◌, ◌*◌, ◌<◌, ◌≤◌, ℤ, pos, ◌+ℤ◌, ◌*ℤ◌, ◌≤ℤ◌, Bool, true, false, ◌==◌, List, ◌∷◌, length, refl, sym, ap, ◌∙◌, ⊎_elim, arith}
 use Rattle.std.proofs.lemmas.Int.{ints}
 use Rattle.std.proofs.lemmas.Bool.{cases_lt}
@@ -20,9 +20,9 @@ use Rattle.net_incidence.specs.Graph.{Graph, bare}
 use Rattle.painted_search.specs.Path.{IsFreePath}
 use Rattle.painted_search.proofs.Counting.{total_below, total_below-order}
 use Rattle.feasible_flow.specs.Painting.{list_at, painting}
-use Rattle.feasible_flow.specs.Gaps.{IsNeed, gap, gap_at, total_gap, most_gap, needed, HasRoom}
+use Rattle.feasible_flow.specs.Violations.{IsNeed, violation, violation_at, total_violation, most_violation, needed, HasRoom}
 use Rattle.feasible_flow.specs.UnderWay.{IsUnderWay, AreNoFurther, IsNearer, AllHaveRoom}
-use Rattle.feasible_flow.proofs.OneGap.{gap-no_further, gap-falls, gap-most, need-room, needed-most}
+use Rattle.feasible_flow.proofs.OneArc.{violation-no_further, violation-falls, violation-most, need-room, needed-most}
 use Rattle.feasible_flow.proofs.Lists.{AreCurves}
 use Rattle.feasible_flow.proofs.Closing.{closes}
 use Rattle.feasible_flow.proofs.Sending.{divergence-sent, length-sent, sent-here, sent-elsewhere, passes}
@@ -61,7 +61,7 @@ total_below-term (suc n) i f l =
 -- ---- one arc of the circuit
 
 record IsMoved (items : List Ext) (t : ℕ) (x y : ℤ) : Type 0 where
-  no_further : gap items y ≤ gap items x
+  no_further : violation items y ≤ violation items x
   up : y ≤ℤ (x +ℤ pos t)
   down : x ≤ℤ (y +ℤ pos t)
 
@@ -79,7 +79,7 @@ sends-down x t false = omega (arith, ints)
 
 moved-by : (items : List Ext) (t : ℕ) (x y : ℤ) (forward : Bool) → HasRoom items x forward t → y ≡ x +ℤ sends t forward → IsMoved items t x y
 moved-by items t x y forward room same =
-    rw same (record { no_further = gap-no_further items x forward t room; up = sends-up x t forward; down = sends-down x t forward })
+    rw same (record { no_further = violation-no_further items x forward t room; up = sends-up x t forward; down = sends-down x t forward })
 
 -- ---- all arcs
 
@@ -111,14 +111,14 @@ no_further-sent : (g : Graph) (lists : List (List Ext)) (t : ℕ) (walk : List S
 no_further-sent g lists t walk x round j = (each-moved g lists t walk x round j).no_further
 
 total-falls : (g : Graph) (lists : List (List Ext)) (t : ℕ) (walk : List Step) (x : List ℤ) → IsSentRound g lists t walk x
-    → total_gap (length g.arcs) lists (sent_round t walk x) + t ≤ total_gap (length g.arcs) lists x
+    → total_violation (length g.arcs) lists (sent_round t walk x) + t ≤ total_violation (length g.arcs) lists x
 total-falls g lists t walk x round =
     let s = step walk 0 in
     let there = round.there 0 round.circuit.not_empty in
     let same_length = round.one_each in
     let here = sent-here t walk x 0 round.circuit.arcs_differ round.circuit.not_empty (omega (arith, there, same_length)) in
-    let falls = gap-falls (list_at lists s.arc.0) («at» x s.arc.0) s.forward t (round.rooms 0 round.circuit.not_empty) round.lacks in
-    total_below-falls (length g.arcs) s.arc.0 t (gap_at lists x) (gap_at lists (sent_round t walk x)) there
+    let falls = violation-falls (list_at lists s.arc.0) («at» x s.arc.0) s.forward t (round.rooms 0 round.circuit.not_empty) round.lacks in
+    total_below-falls (length g.arcs) s.arc.0 t (violation_at lists x) (violation_at lists (sent_round t walk x)) there
     (no_further-sent g lists t walk x round) (rw here falls)
 
 balanced : (t : ℕ) (d e b : ℤ) → e +ℤ pos t *ℤ b ≡ d → b ≡ pos 0 → d ≡ pos 0 → e ≡ pos 0
@@ -188,18 +188,18 @@ nearer-sent g lists x y walk s need amount from to curves way there lacks from_i
 -- ---- ranges
 
 pub total-within : (g : Graph) (lists : List (List Ext)) (x : List ℤ) → IsUnderWay g lists x
-    → total_gap (length g.arcs) lists x ≤ most_gap (length g.arcs)
+    → total_violation (length g.arcs) lists x ≤ most_violation (length g.arcs)
 total-within g lists x way = let h = way.high 0 in let l = way.low 0 in omega (arith, ints)
 
 pub flow-within : (g : Graph) (lists : List (List Ext)) (x : List ℤ) → IsUnderWay g lists x → (j : ℕ)
-    → IsWithin (most_gap (length g.arcs)) («at» x j)
+    → IsWithin (most_violation (length g.arcs)) («at» x j)
 flow-within g lists x way j = let h = way.high j in let l = way.low j in (omega (arith, ints), omega (arith, ints))
 
 pub need-within : (g : Graph) (lists : List (List Ext)) (x : List ℤ) (j need amount : ℕ) (forward : Bool) → IsUnderWay g lists x
-    → j < length g.arcs → IsNeed (list_at lists j) («at» x j) forward need → amount ≤ need → amount ≤ most_gap (length g.arcs)
+    → j < length g.arcs → IsNeed (list_at lists j) («at» x j) forward need → amount ≤ need → amount ≤ most_violation (length g.arcs)
 need-within g lists x j need amount forward way there lacks most =
     let all = total-within g lists x way in
-    let term = total_below-term (length g.arcs) j (gap_at lists x) there in
+    let term = total_below-term (length g.arcs) j (violation_at lists x) there in
     let here = needed-most (list_at lists j) («at» x j) forward in
     omega (arith, lacks.exact)
 
@@ -213,10 +213,10 @@ zero-outflow n pick x zeros = sum_below-zero n (λ j. counted (pick j) (x j)) (�
     by_pick false = refl
 
 pub total-most : (m : ℕ) (lists : List (List Ext)) (x : List ℤ) → AreCurves lists → ((j : ℕ) → «at» x j ≡ pos 0)
-    → total_gap m lists x ≤ most_gap m
+    → total_violation m lists x ≤ most_violation m
 total-most m lists x curves zeros =
-    total_below-most m number_most (gap_at lists x)
-    (λ j. rw (zeros j) (gap-most (list_at lists j) (curves.are_lists j) (curves.within j)))
+    total_below-most m number_most (violation_at lists x)
+    (λ j. rw (zeros j) (violation-most (list_at lists j) (curves.are_lists j) (curves.within j)))
 
 pub under_way-zero : (g : Graph) (lists : List (List Ext)) (x : List ℤ) → AreCurves lists → length x ≡ length g.arcs
     → ((j : ℕ) → «at» x j ≡ pos 0) → IsUnderWay g lists x

@@ -1,4 +1,4 @@
--- Gaps: how far flows are from the domains of their arcs.
+-- Violations: how far flows are from the domains of their arcs.
 use Rattle.std.specs.Prelude.{◌≡◌, ℕ, ◌+◌, ◌*◌, ◌-◌, ◌^◌, ◌≤◌, ℤ, pos, negsuc, ◌+ℤ◌, ◌-ℤ◌, neg_ℤ, Bool, true, false, Option, Some, None, List}
 use Rattle.theory.specs.declared.ext.Ext.{Ext}
 use Rattle.theory.specs.declared.ext.Ext.TheVariants.{MinusInf, At, PlusInf}
@@ -27,19 +27,19 @@ surplus MinusInf x = 0
 surplus (At b) x = positive_part (x -ℤ b)
 surplus PlusInf x = 0
 
-abbrev pub gap : List Ext → ℤ → ℕ
-gap items x = missing (first items) x + surplus (last items) x
+abbrev pub violation : List Ext → ℤ → ℕ
+violation items x = missing (first items) x + surplus (last items) x
 
--- the gap of arc j, and those of the first m arcs together
-abbrev pub gap_at : List (List Ext) → List ℤ → ℕ → ℕ
-gap_at lists x j = gap (list_at lists j) («at» x j)
+-- the violation of arc j, and those of the first m arcs together
+abbrev pub violation_at : List (List Ext) → List ℤ → ℕ → ℕ
+violation_at lists x j = violation (list_at lists j) («at» x j)
 
-abbrev pub total_gap : ℕ → List (List Ext) → List ℤ → ℕ
-total_gap m lists x = total_below m (gap_at lists x)
+abbrev pub total_violation : ℕ → List (List Ext) → List ℤ → ℕ
+total_violation m lists x = total_below m (violation_at lists x)
 
 -- the most that m flows of 0 lack
-abbrev pub most_gap : ℕ → ℕ
-most_gap m = m * number_most
+abbrev pub most_violation : ℕ → ℕ
+most_violation m = m * number_most
 
 -- ---- one arc
 
@@ -54,7 +54,7 @@ pub record IsNeed (items : List Ext) (x : ℤ) (forward : Bool) (amount : ℕ) :
   pub exact : amount ≡ needed items x forward
 
 abbrev pub IsNeedOf : List (List Ext) → List ℤ → ℕ → Option Need → Type 0
-IsNeedOf lists x j None = gap_at lists x j ≡ 0
+IsNeedOf lists x j None = violation_at lists x j ≡ 0
 IsNeedOf lists x j (Some need) =
     (need.step.arc.0 ≡ j) × IsNeed (list_at lists need.step.arc.0) («at» x need.step.arc.0) need.step.forward need.amount
 
@@ -71,9 +71,9 @@ distance PlusInf x = 2 ^ 64 - 1
 
 -- ---- ranges
 
--- the most that the gaps of a net add up to where all flows are 0: no flow is further from 0 on the way
+-- the most that the violations of a net add up to where all flows are 0: no flow is further from 0 on the way
 abbrev pub near_most : ℕ
-near_most = most_gap most_count
+near_most = most_violation most_count
 
 abbrev pub AreNear : ℕ → List ℤ → Type 0
 AreNear most x = (j : ℕ) → IsWithin most («at» x j)
