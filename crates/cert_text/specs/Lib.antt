@@ -3,3 +3,4 @@ pub mod Shown
 pub mod BadLine
 pub mod Candidate
 pub mod TextLaws
+pub mod FeasibilityText

@@ -56,7 +56,11 @@ fn append_head(out: &mut Vec<u8>, kind: &[u8]) -> Result<(), AllocError>
     Ok(())
 }
 
-fn append_number_line(out: &mut Vec<u8>, keyword: &[u8], number: i128) -> Result<(), AllocError>
+pub(crate) fn append_number_line(
+    out: &mut Vec<u8>,
+    keyword: &[u8],
+    number: i128,
+) -> Result<(), AllocError>
     ensures { OnOk result (out.new.items ≡ out.old.items ++ number_line keyword.now number) }
 {
     out.extend_from_slice(keyword)?;
@@ -66,7 +70,7 @@ fn append_number_line(out: &mut Vec<u8>, keyword: &[u8], number: i128) -> Result
 }
 
 /// A space and the number at a position.
-fn append_number_at(out: &mut Vec<u8>, numbers: &[i64], k: u32) -> Result<(), AllocError>
+pub(crate) fn append_number_at(out: &mut Vec<u8>, numbers: &[i64], k: u32) -> Result<(), AllocError>
     requires { k < length numbers.now }
     ensures { OnOk result (out.new.items ≡ out.old.items ++ 32 ∷ printed_number («at» numbers.now k)) }
 {
@@ -107,7 +111,7 @@ fn append_potential(
 }
 
 /// The flows of the ground arcs.
-fn append_supplies(out: &mut Vec<u8>, m: &Model, x: &[i64]) -> Result<(), AllocError>
+pub(crate) fn append_supplies(out: &mut Vec<u8>, m: &Model, x: &[i64]) -> Result<(), AllocError>
     requires { length x.now ≡ length m.now.entries.nodes + length m.now.entries.arcs }
     ensures { OnOk result (out.new.items ≡ out.old.items ++ supply_lines m.now.entries x.now) }
 {
@@ -118,7 +122,7 @@ fn append_supplies(out: &mut Vec<u8>, m: &Model, x: &[i64]) -> Result<(), AllocE
 }
 
 /// The flows of the model's arcs.
-fn append_arcs(out: &mut Vec<u8>, m: &Model, x: &[i64]) -> Result<(), AllocError>
+pub(crate) fn append_arcs(out: &mut Vec<u8>, m: &Model, x: &[i64]) -> Result<(), AllocError>
     requires { length x.now ≡ length m.now.entries.nodes + length m.now.entries.arcs }
     ensures { OnOk result (out.new.items ≡ out.old.items ++ arc_lines m.now.entries x.now) }
 {
@@ -156,7 +160,7 @@ pub fn append_arc_name(out: &mut Vec<u8>, m: &Model, j: u32) -> Result<(), Alloc
 }
 
 /// The nodes of the side, the ground first.
-fn append_side(out: &mut Vec<u8>, m: &Model, side: &[bool]) -> Result<(), AllocError>
+pub(crate) fn append_side(out: &mut Vec<u8>, m: &Model, side: &[bool]) -> Result<(), AllocError>
     requires { length side.now ≡ length m.now.entries.nodes + 1 }
     ensures { OnOk result (out.new.items ≡ out.old.items
         ++ texts_below (length m.now.entries.nodes + 1) (side_line m.now.entries side.now)) }
@@ -203,7 +207,7 @@ pub fn append_node_name(out: &mut Vec<u8>, m: &Model, i: u32) -> Result<(), Allo
 }
 
 /// The steps of the walk in order.
-fn append_walk(out: &mut Vec<u8>, m: &Model, walk: &[Step]) -> Result<(), AllocError>
+pub(crate) fn append_walk(out: &mut Vec<u8>, m: &Model, walk: &[Step]) -> Result<(), AllocError>
     requires { (k : ℕ) → k < length walk.now → (step walk.now k).arc.0 < length m.now.entries.nodes + length m.now.entries.arcs }
     ensures { OnOk result (out.new.items ≡ out.old.items ++ flat_map (step_line m.now.entries) walk.now) }
 {

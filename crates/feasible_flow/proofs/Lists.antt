@@ -9,7 +9,7 @@ use Rattle.theory.specs.Limits.{AreWithin, number_most}
 use Rattle.theory.specs.Network.{IsNetwork, curve}
 use Rattle.theory.proofs.Shape.{single, place_of_shape}
 use Rattle.net_incidence.specs.Graph.{Graph}
-use Rattle.painted_search.specs.Unpriced.{unbased, unpriced}
+use Rattle.painted_search.specs.Unpriced.{without_base, unpriced}
 use Rattle.feasible_flow.specs.Painting.{list_at}
 
 each-list : {A : Type 0} (f : A → List Ext) (P : List Ext → Type 0) → P (At (pos 0) ∷ []) → ((a : A) → P (f a)) → (xs : List A) (j : ℕ)
@@ -45,6 +45,6 @@ unpriced-network g lists curves one_each = record {
   tails = g.good.tails;
   heads = g.good.heads;
   no_loops = g.good.no_loops;
-  one_curve_each = length-map lists unbased ∙ one_each;
+  one_curve_each = length-map lists without_base ∙ one_each;
   curve_lists = λ j there. each-unpriced g lists curves j;
 }

@@ -10,75 +10,74 @@ use Rattle.model_text.specs.Model.{IsWellFormed, arc_names, place_of}
 use Rattle.model_text.proofs.SpelledForm.{spelled_is_formed}
 use Rattle.cert_text.proofs.OneText.{bad_line_has_none}
 use Rattle.cert_text.proofs.OneCertificate.{one_certificate}
+use Rattle.cert_text.specs.declared.feasible.FlowPart.{FlowPart}
+use Rattle.cert_text.specs.declared.feasible.FlowPart.TheVariants.{Yes as YesFlow, No as NoFlow}
+use Rattle.cert_text.specs.declared.feasible.TensionPart.{TensionPart}
+use Rattle.cert_text.specs.declared.feasible.TensionPart.TheVariants.{Yes as YesTension, No as NoTension}
 use Rattle.cert_check.specs.Verdict.{IsVerdict}
 use Rattle.cert_check.specs.declared.judged.Judged.{Judged}
 use Rattle.cert_check.specs.declared.judged.Judged.TheVariants.{Accepted, NotConserved, OffCurve, OutOfCapacity, NotCircuit, Endless, WrongNumber, NotNegative}
 use Rattle.cert_check.proofs.Verdicts.{accepted-is_valid}
 use Rattle.mono_top.specs.Answer.{Outside, Answers, ReadsThen, ChecksFile}
-use Rattle.mono_top.specs.Causes.{AsksSolvable, AsksToCheck, GoesThrough}
+use Rattle.mono_top.specs.Causes.{AsksSolvable, AsksToCheck, AsksFeasible}
 use Rattle.mono_top.specs.Checks.{ChecksText, IsValidText, status_by}
 use Rattle.mono_top.specs.Due.{IsDue}
-use Rattle.mono_top.specs.Request.{Request, solve, check, show_curve}
+use Rattle.mono_top.specs.FindsFeasible.{FindsFeasible, status_of_parts}
+use Rattle.mono_top.specs.Request.{Request, solve, check, feasible, show_curve}
 use Rattle.mono_top.specs.ShowsCurve.{ShowsCurve, ShowsAt}
 use Rattle.mono_top.specs.Solves.{SolvesModel, AreAllPoints, IsCertified, status_of}
 use Rattle.mono_top.specs.declared.lines.Place.TheVariants.{Second}
 use Rattle.mono_top.specs.declared.status.Status.{Status}
-use Rattle.mono_top.specs.declared.status.Status.TheVariants.{Done, Rejected, Usage, ModelRefused, Missing, ReadFault, TooLong, UnknownArc, Unbuilt, NoMemory}
+use Rattle.mono_top.specs.declared.status.Status.TheVariants.{Done, Cut, Circuit, Rejected, Usage, ModelRefused, Missing, ReadFault, TooLong, UnknownArc, Unbuilt, NoMemory}
 use Rattle.mono_top.proofs.ModelFileLemmas.{IsOwn, IsModelAnswer, own_answer, of_last, not_then, of_text, reached, due_of_model}
 
 -- ---- `solve`
 
-own_kind : (c : Certificate) (status : Status) → status ≡ status_of c → IsOwn status
-own_kind (optimal x u cost value) status is = search rules
-own_kind (cut side capacity) status is = search rules
-own_kind (circuit x walk span) status is = search rules
+-- the status is one of the three kinds of answers
+abbrev IsKind : Status → Type 0
+IsKind status = (status ≡ Done) ⊎ (status ≡ Cut) ⊎ (status ≡ Circuit)
 
-kind_reads : (c : Certificate) (status : Status) (line : ℕ) (word : FaultWord) → status ≡ status_of c → status ≢ ModelRefused line word
-kind_reads (optimal x u cost value) status line word is refused = cc
-kind_reads (cut side capacity) status line word is refused = cc
-kind_reads (circuit x walk span) status line word is refused = cc
+kind_own : (status : Status) → IsKind status → IsOwn status
+kind_own status (inl is) = search rules
+kind_own status (inr (inl is)) = search rules
+kind_own status (inr (inr is)) = search rules
 
--- nor is it a status that other commands give
-pub record IsSolved (status : Status) : Type 0 where
-  pub built : status ≢ Unbuilt
-  pub known : status ≢ UnknownArc
-  pub accepted : status ≢ Rejected
+kind_not : (status other : Status) → other ≢ Done → other ≢ Cut → other ≢ Circuit → IsKind status → status ≢ other
+kind_not status other not_done not_cut not_circuit (inl is) same = not_done (sym same ∙ is)
+kind_not status other not_done not_cut not_circuit (inr (inl is)) same = not_cut (sym same ∙ is)
+kind_not status other not_done not_cut not_circuit (inr (inr is)) same = not_circuit (sym same ∙ is)
 
-kind_solved : (c : Certificate) (status : Status) → status ≡ status_of c → IsSolved status
-kind_solved (optimal x u cost value) status is = record { built = λ e. cc; known = λ e. cc; accepted = λ e. cc }
-kind_solved (cut side capacity) status is = record { built = λ e. cc; known = λ e. cc; accepted = λ e. cc }
-kind_solved (circuit x walk span) status is = record { built = λ e. cc; known = λ e. cc; accepted = λ e. cc }
+certified_kind : (m : Entries) (status : Status) (text : List ℕ) → IsCertified m status text → IsKind status
+certified_kind m status text certified = of_kind certified.certificate certified.kind
+  where
+    of_kind : (c : Certificate) → status ≡ status_of c → IsKind status
+    of_kind (optimal x u cost value) is = inl is
+    of_kind (cut side capacity) is = inr (inl is)
+    of_kind (circuit x walk span) is = inr (inr is)
 
 solves_own : (m : Entries) (status : Status) (text : List ℕ) → SolvesModel m status text → IsOwn status
-solves_own m status text (inl (points, certified)) = own_kind certified.certificate status certified.kind
+solves_own m status text (inl (points, certified)) = kind_own status (certified_kind m status text certified)
 solves_own m status text (inr (beyond, is, line)) = search rules
 
-solves_reads : (m : Entries) (status : Status) (text : List ℕ) (line : ℕ) (word : FaultWord) → SolvesModel m status text → status ≢ ModelRefused line word
-solves_reads m status text line word (inl (points, certified)) refused =
-    kind_reads certified.certificate status line word certified.kind refused
-solves_reads m status text line word (inr (beyond, is, said)) refused = cc
+-- a status that no answer of `solve` has
+solves_not : (other : Status) (m : Entries) (status : Status) (text : List ℕ) → other ≢ Done → other ≢ Cut → other ≢ Circuit → other ≢ Unbuilt
+    → SolvesModel m status text → status ≢ other
+solves_not other m status text not_done not_cut not_circuit built (inl (points, certified)) =
+    kind_not status other not_done not_cut not_circuit (certified_kind m status text certified)
+solves_not other m status text not_done not_cut not_circuit built (inr (beyond, is, said)) = λ same. built (sym same ∙ is)
 
 solves_answer : (outside : Outside) → IsModelAnswer [] outside SolvesModel
-solves_answer outside = own_answer outside SolvesModel solves_own solves_reads
+solves_answer outside = own_answer outside SolvesModel solves_own
+    (λ m status text line word solves. solves_not (ModelRefused line word) m status text (λ e. cc) (λ e. cc) (λ e. cc) (λ e. cc) solves)
 
 solves_beyond : (m : Entries) (status : Status) (text : List ℕ) → SolvesModel m status text → status ≡ Unbuilt → ¬ AreAllPoints m
 solves_beyond m status text (inl (points, certified)) unbuilt =
-    absurd ((kind_solved certified.certificate status certified.kind).built unbuilt)
+    absurd (kind_not status Unbuilt (λ e. cc) (λ e. cc) (λ e. cc) (certified_kind m status text certified) unbuilt)
 solves_beyond m status text (inr (beyond, is, said)) unbuilt = beyond
 
 beyond_solves : (m : Entries) (status : Status) (text : List ℕ) → SolvesModel m status text → ¬ AreAllPoints m → status ≡ Unbuilt
 beyond_solves m status text (inl (points, certified)) beyond = absurd (beyond points)
 beyond_solves m status text (inr (far, is, said)) beyond = is
-
-solves_known : (m : Entries) (status : Status) (text : List ℕ) → SolvesModel m status text → status ≢ UnknownArc
-solves_known m status text (inl (points, certified)) unknown =
-    (kind_solved certified.certificate status certified.kind).known unknown
-solves_known m status text (inr (beyond, is, said)) unknown = cc
-
-solves_accepted : (m : Entries) (status : Status) (text : List ℕ) → SolvesModel m status text → status ≢ Rejected
-solves_accepted m status text (inl (points, certified)) rejected =
-    (kind_solved certified.certificate status certified.kind).accepted rejected
-solves_accepted m status text (inr (beyond, is, said)) rejected = cc
 
 -- a model of single points is certified
 points_certified : (m : Entries) (status : Status) (text : List ℕ) → SolvesModel m status text → AreAllPoints m → IsCertified m status text
@@ -155,6 +154,21 @@ rejected_is_invalid : (m : Entries) (bytes : List ℕ) (status : Status) → IsJ
 rejected_is_invalid m bytes status (inl (done, valid)) rejected = absurd cc
 rejected_is_invalid m bytes status (inr (is, refused)) rejected = refused
 
+-- ---- `feasible`
+
+finds_kind : (m : Entries) (status : Status) (text : List ℕ) → FindsFeasible m status text → IsKind status
+finds_kind m status text finds = of_parts finds.flow finds.tension finds.kind
+  where
+    of_parts : (flow : FlowPart) (tension : TensionPart) → status ≡ status_of_parts flow tension → IsKind status
+    of_parts (NoFlow side capacity) tension is = inr (inl is)
+    of_parts (YesFlow x) (NoTension walk span) is = inr (inr is)
+    of_parts (YesFlow x) (YesTension u) is = inl is
+
+finds_answer : (outside : Outside) → IsModelAnswer [] outside FindsFeasible
+finds_answer outside = own_answer outside FindsFeasible
+    (λ m status text finds. kind_own status (finds_kind m status text finds))
+    (λ m status text line word finds. kind_not status (ModelRefused line word) (λ e. cc) (λ e. cc) (λ e. cc) (finds_kind m status text finds))
+
 -- ---- `curve`
 
 shows_own : (m : Entries) (at : Option ℕ) (status : Status) (text : List ℕ) → ShowsAt m at status text → IsOwn status
@@ -201,7 +215,7 @@ due (Some (solve model)) outside status text answers =
       refused_always = all.refused_always;
       rejected = λ is files told.
           let of = all.next (search rules) (λ line word e. cc) files told in
-          absurd (solves_accepted of.3.model status text of.3.next is);
+          absurd (solves_not Rejected of.3.model status text (λ e. cc) (λ e. cc) (λ e. cc) (λ e. cc) of.3.next is);
       rejected_always = λ files told asks quiet. absurd asks.2;
       unbuilt = λ is files told.
           let of = all.next (search rules) (λ line word e. cc) files told in
@@ -210,7 +224,7 @@ due (Some (solve model)) outside status text answers =
           beyond_solves asks.3.0 status text (all.next_always files told asks.3.0 (asks.0, asks.1, asks.2, asks.3.1) (all.quiet quiet)) asks.3.2;
       unknown_arc = λ is files told.
           let of = all.next (search rules) (λ line word e. cc) files told in
-          absurd (solves_known of.3.model status text of.3.next is);
+          absurd (solves_not UnknownArc of.3.model status text (λ e. cc) (λ e. cc) (λ e. cc) (λ e. cc) of.3.next is);
       unknown_arc_always = λ files told asks quiet. absurd asks;
     }
 due (Some (check model certificate)) outside status text answers =
@@ -247,6 +261,27 @@ due (Some (check model certificate)) outside status text answers =
           absurd (checks_not UnknownArc certificate outside of.3.model status text (λ e. cc) (λ e. cc) (λ e. cc) (λ e. cc) (λ e. cc) of.3.next is);
       unknown_arc_always = λ files told asks quiet. absurd asks;
     }
+due (Some (feasible model)) outside status text answers =
+    let all = due_of_model model [] FindsFeasible outside status text (finds_answer outside) answers in
+    record {
+      usage = λ is. absurd (all.listed is);
+      usage_always = λ none. cc;
+      of_files = all.of_files;
+      refused = all.refused;
+      refused_always = all.refused_always;
+      rejected = λ is files told.
+          let of = all.next (search rules) (λ line word e. cc) files told in
+          absurd (kind_not status Rejected (λ e. cc) (λ e. cc) (λ e. cc) (finds_kind of.3.model status text of.3.next) is);
+      rejected_always = λ files told asks quiet. absurd asks.2;
+      unbuilt = λ is files told.
+          let of = all.next (search rules) (λ line word e. cc) files told in
+          absurd (kind_not status Unbuilt (λ e. cc) (λ e. cc) (λ e. cc) (finds_kind of.3.model status text of.3.next) is);
+      unbuilt_always = λ files told asks quiet. absurd asks;
+      unknown_arc = λ is files told.
+          let of = all.next (search rules) (λ line word e. cc) files told in
+          absurd (kind_not status UnknownArc (λ e. cc) (λ e. cc) (λ e. cc) (finds_kind of.3.model status text of.3.next) is);
+      unknown_arc_always = λ files told asks quiet. absurd asks;
+    }
 due (Some (show_curve model arc)) outside status text answers =
     let all = due_of_model model [] (ShowsCurve arc) outside status text (shows_answer arc outside) answers in
     record {
@@ -281,6 +316,7 @@ certified (Some (solve model)) outside status text answers read files told m ask
       points_certified m status text (all.next_always files told m (asks.0, asks.1, asks.2, asks.3.0) read) asks.3.1,
     )
 certified (Some (check model certificate)) outside status text answers read files told m asks = absurd asks
+certified (Some (feasible model)) outside status text answers read files told m asks = absurd asks
 certified (Some (show_curve model arc)) outside status text answers read files told m asks = absurd asks
 
 -- the text of a request to check is judged, where no fault kept a file from being read
@@ -296,4 +332,16 @@ checked (Some (check model certificate)) outside status text answers read files 
     let formed = spelled_is_formed first.0 m first.3 in
     let checks = reached Second certificate (ChecksText m) outside status text (all.next_always files told m first read) read files told second.0 second.1 second.2 in
     (formed, subst (λ (b : List ℕ). IsJudged m b status) second.3 (judged m second.0 status text formed checks))
+checked (Some (feasible model)) outside status text answers read files told m bytes asks = absurd asks
 checked (Some (show_curve model arc)) outside status text answers read files told m bytes asks = absurd asks
+
+-- the model of a request for feasibility is answered, where no fault kept the file from being read
+pub found : (request : Option Request) (outside : Outside) (status : Status) (text : List ℕ) → Answers request outside status text
+    → status ≢ ReadFault → ForSome outside.holds (λ files. (m : Entries) → AsksFeasible files m request → IsWellFormed m × FindsFeasible m status text)
+found None outside status text answers read files told m asks = absurd asks
+found (Some (solve model)) outside status text answers read files told m asks = absurd asks
+found (Some (check model certificate)) outside status text answers read files told m asks = absurd asks
+found (Some (feasible model)) outside status text answers read files told m asks =
+    let all = due_of_model model [] FindsFeasible outside status text (finds_answer outside) answers in
+    (spelled_is_formed asks.0 m asks.3, all.next_always files told m asks read)
+found (Some (show_curve model arc)) outside status text answers read files told m asks = absurd asks

@@ -1,22 +1,28 @@
 -- From a certified text to what it claims. A valid certificate says what its kind says; and where flow is refused no
 -- other kind than the cut is valid, since the others show a feasible flow.
 use Rattle.std.proofs.Common.{◌≡◌, ◌↔◌, ℕ, ◌≤◌, List, Option, inl, inr, arith}
-use Rattle.theory.specs.Network.{Network}
+use Rattle.theory.specs.Network.{Network, IsNetwork}
 use Rattle.theory.specs.Grounded.{Entries, grounded}
-use Rattle.theory.specs.Best.{FlowIsRefused}
+use Rattle.theory.specs.Best.{FlowIsRefused, TensionIsRefused}
 use Rattle.theory.specs.Certificate.{Certificate}
 use Rattle.theory.specs.Certificate.Certificate.{optimal, cut, circuit}
 use Rattle.theory.specs.CertificateLaws.{Says}
 use Rattle.theory.proofs.Certificates.{certificate_says}
+use Rattle.theory.proofs.Refusals.{negative_cut, negative_circuit}
 use Rattle.theory.proofs.GroundedLaw.{grounded_is_network}
 use Rattle.outside_io.specs.Sink.{Grew}
 use Rattle.model_text.specs.Model.{IsWellFormed}
 use Rattle.mono_top.specs.Solves.{IsCertified, status_of}
+use Rattle.cert_text.specs.declared.feasible.FlowPart.{FlowPart}
+use Rattle.cert_text.specs.declared.feasible.FlowPart.TheVariants.{Yes as YesFlow, No as NoFlow}
+use Rattle.cert_text.specs.declared.feasible.TensionPart.{TensionPart}
+use Rattle.cert_text.specs.declared.feasible.TensionPart.TheVariants.{Yes as YesTension, No as NoTension}
 use Rattle.mono_top.specs.Checks.{IsValidText}
-use Rattle.mono_top.specs.Headline.{Concludes, ConcludesCheck}
+use Rattle.mono_top.specs.FindsFeasible.{FindsFeasible, IsTensionPart, FlowShows, status_of_parts}
+use Rattle.mono_top.specs.Headline.{Concludes, ConcludesCheck, ConcludesFeasible}
 use Rattle.mono_top.proofs.DueLemmas.{IsJudged}
 use Rattle.mono_top.specs.declared.status.Status.{Status}
-use Rattle.mono_top.specs.declared.status.Status.TheVariants.{Cut, Done, Rejected}
+use Rattle.mono_top.specs.declared.status.Status.TheVariants.{Cut, Circuit, Done, Rejected}
 
 one_is_one : 1 ≤ 1
 one_is_one = omega arith
@@ -55,3 +61,40 @@ concludes_check m bytes status formed judged =
         says = says;
       }
     ]
+
+-- each part says whether there is something feasible
+pub concludes_feasible : (m : Entries) (status : Status) (text : List ℕ) → IsWellFormed m → FindsFeasible m status text → ConcludesFeasible m status
+concludes_feasible m status text formed finds =
+    by_parts finds.flow finds.tension finds.flow_is.shows finds.tension_is finds.kind
+  where
+    net : Network
+    net = grounded m
+
+    is_network : IsNetwork net
+    is_network = grounded_is_network m formed.model
+
+    by_parts : (flow : FlowPart) (tension : TensionPart) → FlowShows net flow → IsTensionPart net tension → status ≡ status_of_parts flow tension
+        → ConcludesFeasible m status
+    by_parts (NoFlow side capacity) tension no_flow shown is =
+        let refused = negative_cut net side is_network no_flow.0 in
+        record {
+          flow_refused = (λ e. refused, λ none. is);
+          tension_refused = (λ e. absurd cc, λ both. absurd (both.0 refused));
+          neither_refused = (λ e. absurd cc, λ both. absurd (both.0 refused));
+        }
+    by_parts (YesFlow x) (NoTension walk span) flow no_tension is =
+        let refused = negative_circuit net walk is_network no_tension.fits.0.there no_tension.shows.0 in
+        let some : ¬ FlowIsRefused net = λ none. none 1 x one_is_one flow in
+        record {
+          flow_refused = (λ e. absurd cc, λ none. absurd (some none));
+          tension_refused = (λ e. (some, refused), λ both. is);
+          neither_refused = (λ e. absurd cc, λ both. absurd (both.1 refused));
+        }
+    by_parts (YesFlow x) (YesTension u) flow tension is =
+        let some : ¬ FlowIsRefused net = λ none. none 1 x one_is_one flow in
+        let also : ¬ TensionIsRefused net = λ none. none 1 u one_is_one tension.shows in
+        record {
+          flow_refused = (λ e. absurd cc, λ none. absurd (some none));
+          tension_refused = (λ e. absurd cc, λ both. absurd (also both.1));
+          neither_refused = (λ e. (some, also), λ both. is);
+        }

@@ -7,10 +7,11 @@ use Rattle.theory.specs.Grounded.{Entries}
 use Rattle.outside_io.specs.Files.{Files, file_of}
 use Rattle.mono_top.specs.Lines.{usage_line, missing_line, read_fault_line, too_long_line}
 use Rattle.mono_top.specs.Reading.{file_most, IsReadPastMost}
-use Rattle.mono_top.specs.Request.{Request, solve, check, show_curve}
+use Rattle.mono_top.specs.Request.{Request, solve, check, feasible, show_curve}
 use Rattle.mono_top.specs.OfModel.{OfModel}
 use Rattle.mono_top.specs.Checks.{ChecksText}
 use Rattle.mono_top.specs.ShowsCurve.{ShowsCurve}
+use Rattle.mono_top.specs.FindsFeasible.{FindsFeasible}
 use Rattle.mono_top.specs.Solves.{SolvesModel}
 use Rattle.mono_top.specs.declared.lines.Place.{Place}
 use Rattle.mono_top.specs.declared.lines.Place.TheVariants.{First, Second}
@@ -51,4 +52,5 @@ Answers None outside status text = (status ≡ Usage) × (text ≡ usage_line)
 Answers (Some (solve model)) outside status text = ReadsThen First model (OfModel SolvesModel) outside status text
 Answers (Some (check model certificate)) outside status text =
     ReadsThen First model (OfModel (ChecksFile certificate outside)) outside status text
+Answers (Some (feasible model)) outside status text = ReadsThen First model (OfModel FindsFeasible) outside status text
 Answers (Some (show_curve model arc)) outside status text = ReadsThen First model (OfModel (ShowsCurve arc)) outside status text

@@ -5,13 +5,13 @@
 -- is bounded.
 use Rattle.std.specs.Prelude.{◌≡◌, ◌↔◌, ℕ, List, Option}
 use Rattle.theory.specs.Grounded.{Entries, grounded}
-use Rattle.theory.specs.Best.{FlowIsRefused}
+use Rattle.theory.specs.Best.{FlowIsRefused, TensionIsRefused}
 use Rattle.theory.specs.CertificateLaws.{Says}
 use Rattle.outside_io.specs.Sink.{Grew}
 use Rattle.mono_top.specs.Solves.{IsCertified}
 use Rattle.mono_top.specs.Checks.{IsValidText}
 use Rattle.mono_top.specs.declared.status.Status.{Status}
-use Rattle.mono_top.specs.declared.status.Status.TheVariants.{Done, Cut, Rejected}
+use Rattle.mono_top.specs.declared.status.Status.TheVariants.{Done, Cut, Circuit, Rejected}
 
 pub record Concludes (m : Entries) (status : Status) (old new : Option (List ℕ)) : Type 0 where
   pub text : List ℕ
@@ -26,3 +26,10 @@ pub record ConcludesCheck (m : Entries) (text : List ℕ) (status : Status) : Ty
   pub accepted : (status ≡ Done) ↔ IsValidText m text
   pub rejected : (status ≡ Rejected) ↔ (¬ IsValidText m text)
   pub says : (valid : IsValidText m text) → Says (grounded m) valid.certificate
+
+-- What a call to `feasible` concludes of a model: whether there are a feasible flow and a feasible potential, over any
+-- fractions.
+pub record ConcludesFeasible (m : Entries) (status : Status) : Type 0 where
+  pub flow_refused : (status ≡ Cut) ↔ FlowIsRefused (grounded m)
+  pub tension_refused : (status ≡ Circuit) ↔ ((¬ FlowIsRefused (grounded m)) × TensionIsRefused (grounded m))
+  pub neither_refused : (status ≡ Done) ↔ ((¬ FlowIsRefused (grounded m)) × (¬ TensionIsRefused (grounded m)))

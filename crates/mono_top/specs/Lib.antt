@@ -2,9 +2,11 @@ pub mod Answer
 pub mod Causes
 pub mod Checks
 pub mod Commands
+pub mod CountsReadings
 pub mod Due
 pub mod Ending
 pub mod Fetch
+pub mod FindsFeasible
 pub mod Forced
 pub mod Headline
 pub mod Lines

@@ -7,6 +7,7 @@ use Rattle.std.specs.declared.alloc.Global.{Global}
 pub data Request : Type 0 where
   solve : (model : List ℕ) → Request
   check : (model certificate : List ℕ) → Request
+  feasible : (model : List ℕ) → Request
   show_curve : (model arc : List ℕ) → Request
 
 -- the words, each as its bytes
@@ -15,7 +16,9 @@ texts words = map string_bytes words
 
 -- what the words ask for; words that are no command ask for nothing
 abbrev pub request_of : List (List ℕ) → Option Request
-request_of (command ∷ model ∷ []) = if pointwise nat_eq command (codes "solve") then Some (solve model) else None
+request_of (command ∷ model ∷ []) =
+    if pointwise nat_eq command (codes "solve") then Some (solve model)
+    else (if pointwise nat_eq command (codes "feasible") then Some (feasible model) else None)
 request_of (command ∷ model ∷ other ∷ []) =
     if pointwise nat_eq command (codes "check") then Some (check model other)
     else (if pointwise nat_eq command (codes "curve") then Some (show_curve model other) else None)
@@ -26,6 +29,7 @@ abbrev pub files_of : Option Request → List (List ℕ)
 files_of None = []
 files_of (Some (solve model)) = model ∷ []
 files_of (Some (check model certificate)) = model ∷ certificate ∷ []
+files_of (Some (feasible model)) = model ∷ []
 files_of (Some (show_curve model arc)) = model ∷ []
 
 -- what the words of a call ask for

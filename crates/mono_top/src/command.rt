@@ -12,6 +12,9 @@ pub(crate) enum Command<'a> {
         model: &'a str,
         certificate: &'a str,
     },
+    Feasible {
+        model: &'a str,
+    },
     Curve {
         model: &'a str,
         arc: &'a str,
@@ -24,6 +27,9 @@ pub(crate) fn command_of(words: &[String]) -> Option<Command<'_>>
 {
     match words {
         [command, model] if command.as_str() == "solve" => Some(Command::Solve {
+            model: model.as_str(),
+        }),
+        [command, model] if command.as_str() == "feasible" => Some(Command::Feasible {
             model: model.as_str(),
         }),
         [command, model, certificate] if command.as_str() == "check" => Some(Command::Check {

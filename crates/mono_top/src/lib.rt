@@ -4,6 +4,7 @@
 mod answer;
 mod check;
 mod command;
+mod feasible;
 mod fetch;
 mod forced;
 mod lines;

@@ -5,8 +5,9 @@ ghost use Rattle.theory.specs.Grounded.{Entries};
 ghost use Rattle.model_text.specs.declared.fault.FaultWord.{FaultWord as Fault};
 ghost use Rattle.outside_io.specs.Counts.{Rose, Counts};
 ghost use Rattle.mono_top.specs.Answer.{Answers, outside_of};
-ghost use Rattle.mono_top.specs.Causes.{AsksFaulty, AsksSolvable, AsksToCheck, AsksInvalid, AsksUnbuilt, AsksUnknownArc, IsAnswerable, GoesThrough};
-ghost use Rattle.mono_top.specs.Headline.{Concludes, ConcludesCheck};
+ghost use Rattle.mono_top.specs.Causes.{AsksFaulty, AsksSolvable, AsksToCheck, AsksInvalid, AsksFeasible, AsksUnbuilt, AsksUnknownArc, IsAnswerable, GoesThrough};
+ghost use Rattle.mono_top.specs.CountsReadings.{CountsReadings};
+ghost use Rattle.mono_top.specs.Headline.{Concludes, ConcludesCheck, ConcludesFeasible};
 ghost use Rattle.mono_top.specs.Ending.{WritesDue, WritesPart};
 ghost use Rattle.mono_top.specs.Reading.{ReachesMissing, ReachesPastMost, ReachesTooLong, HoldsFirst};
 ghost use Rattle.mono_top.specs.Request.{asked, files_of};
@@ -42,6 +43,10 @@ pub fn run<S: Shelf, K: Sink, L: Ledger>(
     ensures checked { result ≢ Status.ReadFault → result ≢ Status.WriteFault → result ≢ Status.NoMemory
         → ForSome (S.holds shelf.old) (λ files. (m : Entries) (text : List ℕ) → AsksToCheck files m text (asked words.now)
         → ConcludesCheck m text result) }
+
+    // Whether there are a flow and a potential that are feasible, over any fractions.
+    ensures feasible { result ≢ Status.ReadFault → result ≢ Status.WriteFault → result ≢ Status.NoMemory
+        → ForSome (S.holds shelf.old) (λ files. (m : Entries) → AsksFeasible files m (asked words.now) → ConcludesFeasible m result) }
 
     // When each refusal comes.
     ensures usage { result ≡ Status.Usage → asked words.now ≡ None }
@@ -85,9 +90,9 @@ pub fn run<S: Shelf, K: Sink, L: Ledger>(
     ensures misses { Counts (S.misses shelf.old) (S.misses shelf.new) }
     ensures faults { Counts (S.faults shelf.old) (S.faults shelf.new) }
     ensures sink_faults { Counts (K.faults out.old) (K.faults out.new) }
-    ensures readings { steps.new ≡ steps.old }
+    ensures readings { CountsReadings (asked words.now) (S.holds shelf.old) steps.old steps.new }
 {
-    let reply = match reply_to(alloc, words, shelf) {
+    let reply = match reply_to(alloc, words, shelf, steps) {
         Ok(reply) => reply,
         Err(_) => return Status::NoMemory,
     };

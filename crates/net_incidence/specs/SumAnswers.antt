@@ -1,8 +1,9 @@
 -- The answer of a sum of ends: the sum where every end is finite, else the first arc whose end is infinite.
-use Rattle.std.specs.Prelude.{◌≡◌, ℕ, ◌<◌, Bool, false, List, length}
+use Rattle.std.specs.Prelude.{◌≡◌, ℕ, ◌*◌, ◌^◌, ◌<◌, Bool, false, List, length}
 use Rattle.theory.specs.declared.ext.Ext.{Ext}
 use Rattle.theory.specs.declared.network.Step.{Step}
 use Rattle.theory.specs.Ends.{is_finite, IsFinite}
+use Rattle.theory.specs.Limits.{IsWithin}
 use Rattle.theory.specs.Network.{Network}
 use Rattle.theory.specs.Cut.{cut_end, cut_sum, CutCounts}
 use Rattle.theory.specs.Circuit.{step, span_end, span_sum, SpanCounts}
@@ -14,6 +15,11 @@ pub record IsFirstEndless (n : ℕ) (end : ℕ → Ext) (k : ℕ) : Type 0 where
   pub there : k < n
   pub endless : is_finite (end k) ≡ false
   pub before : (j : ℕ) → j < k → IsFinite (end j)
+
+-- a sum of n ends, each of which fits 64 bits
+abbrev pub IsSumWithin : ℕ → Sum → Type 0
+IsSumWithin n (Whole z) = IsWithin (n * 2 ^ 63) z
+IsSumWithin n (Endless arc) = Unit {0}
 
 abbrev pub IsCutSum : Network → List Bool → Sum → Type 0
 IsCutSum net side (Whole z) = CutCounts net side × (z ≡ cut_sum net side)

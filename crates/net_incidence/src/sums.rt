@@ -18,14 +18,15 @@ pub enum Sum {
 }
 
 impl Net {
-    ghost use Rattle.net_incidence.specs.SumAnswers.{IsCutSum, IsSpanSum};
+    ghost use Rattle.net_incidence.specs.SumAnswers.{IsCutSum, IsSpanSum, IsSumWithin};
 
     /// The upper domain ends of the arcs that leave the set of marked nodes, less the lower domain ends of the arcs that
     /// enter it. Endless is the first arc of an infinite end, in the order of arc numbers.
     pub fn cut_sum<C: Listed>(&self, curves: &[C], side: &[bool]) -> Sum
         requires one_curve_each { length curves.now ≡ length self.now.arcs }
         requires one_mark_each { length side.now ≡ self.now.nodes }
-        ensures { IsCutSum (network self.now (map C.listing curves.now)) side.now result }
+        ensures sum { IsCutSum (network self.now (map C.listing curves.now)) side.now result }
+        ensures within { IsSumWithin (length self.now.arcs) result }
     {
         let mut sum = 0i128;
         for j in 0..self.arcs() {
@@ -46,7 +47,8 @@ impl Net {
         requires one_curve_each { length curves.now ≡ length self.now.arcs }
         requires there { WalkIsThere (bare self.now) walk.now }
         requires short { length walk.now < 2 ^ 31 }
-        ensures { IsSpanSum (network self.now (map C.listing curves.now)) walk.now result }
+        ensures sum { IsSpanSum (network self.now (map C.listing curves.now)) walk.now result }
+        ensures within { IsSumWithin (length walk.now) result }
     {
         let mut sum = 0i128;
         for step in walk {

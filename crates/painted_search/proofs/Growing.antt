@@ -1,7 +1,7 @@
 -- One more node of the tree. The step that reaches it begins at a node of the tree and ends at none of them, so the walk with
 -- this step is a tree again: what was said of its nodes and steps stays, since they stay, and of the new ones it holds by the
 -- step. There is room for it, since the nodes of the tree are different and the new one is not among them.
-use Rattle.std.proofs.Common.{◌≡◌, ◌≢◌, ℕ, ℤ, zero, suc, ◌+◌, ◌<◌, ◌≤◌, ◌==◌, Bool, true, false, IsTrue, Option, Some, None, List, [], ◌∷◌, ◌++◌, length, get_or, set, refl, sym, ap, ◌∙◌, subst, ⊎_elim, eq-eqb, length-append, arith}
+use Rattle.std.proofs.Common.{◌≡◌, ◌≢◌, ℕ, ℤ, zero, suc, ◌+◌, ◌<◌, ◌≤◌, ◌==◌, Bool, true, false, IsTrue, Some, None, List, [], ◌∷◌, ◌++◌, length, set, refl, sym, ap, ◌∙◌, subst, ⊎_elim, eq-eqb, length-append, arith}
 use Rattle.std.proofs.lemmas.Bool.{cases_lt, cases_eq, ne_eqb, false≢true}
 use Rattle.std.proofs.lemmas.List.{get_or_append_left, get_or-set_same, get_or-set_other}
 use Rattle.std.proofs.Math.Seq.{get_or-append_seam}
@@ -12,7 +12,8 @@ use Rattle.theory.specs.Cut.{holds}
 use Rattle.theory.specs.Circuit.{step, begin_of, end_of}
 use Rattle.net_incidence.specs.Graph.{Graph, bare}
 use Rattle.net_incidence.specs.Incidence.{over}
-use Rattle.painted_search.specs.Room.{Room, with_reached}
+use Rattle.painted_search.specs.Room.{Room}
+use Rattle.painted_search.specs.Reaching.{with_reached}
 use Rattle.painted_search.specs.Path.{IsFreeStep, label_at}
 use Rattle.painted_search.specs.Tree.{node_at, IsTree, IsSearching, GoesOn}
 use Rattle.painted_search.proofs.Counting.{fewer-without}

@@ -1,3 +1,4 @@
+pub mod Unpriced
 pub mod Rooms
 pub mod Overwriting
 pub mod Counting

@@ -1,9 +1,12 @@
--- What the working room is seen as:
+-- The working room, and what becomes of it when it is written to:
 pub mod Room
+pub mod SizedFacts
+pub mod Writes
 pub mod Lending
 pub mod Fits
 pub mod Unpriced
 -- The answers of a search:
 pub mod Path
 -- How a search comes to them:
+pub mod Reaching
 pub mod Tree

@@ -1,20 +1,16 @@
 -- Room: what the working room of a solve is seen as. A flow for each arc, a potential, a mark and a label for each node, a
 -- walk, and the counts of nodes and arcs that it was taken for, with the proof that the lengths agree with these.
--- A write gives the room with one part changed: `with_flow` and its like, each with the proof for what it wrote.
-use Rattle.std.specs.Prelude.{◌≡◌, ℕ, ◌+◌, ◌<◌, ◌≤◌, ◌^◌, ℤ, pos, Bool, true, false, Option, Some, None, List, [], ◌∷◌, ◌++◌, length, take, drop, replicate, reverse, slice_set}
-use Rattle.std.proofs.Common.{refl, sym, ◌∙◌, arith, length-append}
-use Rattle.std.proofs.lemmas.List.{length-set, length-replicate, length-reverse}
-use Rattle.std.specs.List.{length_refill}
+use Rattle.std.specs.Prelude.{◌≡◌, ℕ, ◌≤◌, ◌^◌, ℤ, pos, Bool, false, Option, None, List, [], ◌++◌, length, take, drop, replicate}
 use Rattle.theory.specs.declared.network.Step.{Step}
 
 -- the greatest count of nodes, and of arcs
-abbrev pub most_count : ℕ
-most_count = 10 ^ 6
+abbrev pub count_most : ℕ
+count_most = 10 ^ 6
 
 pub record IsSized (nodes arcs : ℕ) (flows potentials : List ℤ) (reached : List Bool) (labels : List (Option Step)) (walk : List Step) : Type 0 where
   pub some_node : 1 ≤ nodes
-  pub few_nodes : nodes ≤ most_count
-  pub few_arcs : arcs ≤ most_count
+  pub few_nodes : nodes ≤ count_most
+  pub few_arcs : arcs ≤ count_most
   pub one_flow_each : length flows ≡ arcs
   pub one_potential_each : length potentials ≡ nodes
   pub one_mark_each : length reached ≡ nodes
@@ -41,93 +37,6 @@ pub record IsEmpty (count_of_nodes count_of_arcs : ℕ) (w : Room) : Type 0 wher
   pub labels : w.labels ≡ replicate count_of_nodes None
   pub walk : w.walk ≡ []
 
--- ---- the room with one part changed
-
--- lists of the same lengths, and a walk that is short enough
-pub resized : {nodes arcs : ℕ} {flows potentials flows' potentials' : List ℤ} {reached reached' : List Bool} {labels labels' : List (Option Step)}
-    {walk walk' : List Step} → IsSized nodes arcs flows potentials reached labels walk
-    → length flows' ≡ length flows → length potentials' ≡ length potentials → length reached' ≡ length reached → length labels' ≡ length labels
-    → length walk' ≤ nodes → IsSized nodes arcs flows' potentials' reached' labels' walk'
-resized s flows potentials reached labels walk = record {
-  some_node = s.some_node;
-  few_nodes = s.few_nodes;
-  few_arcs = s.few_arcs;
-  one_flow_each = flows ∙ s.one_flow_each;
-  one_potential_each = potentials ∙ s.one_potential_each;
-  one_mark_each = reached ∙ s.one_mark_each;
-  one_label_each = labels ∙ s.one_label_each;
-  short_walk = walk;
-}
-
-pub sized-flow : (w : Room) (j : ℕ) (x : ℤ) → IsSized w.nodes w.arcs (slice_set w.flows j x) w.potentials w.reached w.labels w.walk
-sized-flow w j x = resized w.sized (length-set w.flows j x) refl refl refl w.sized.short_walk
-
-abbrev pub with_flow : Room → ℕ → ℤ → Room
-with_flow w j x = record w { flows = slice_set w.flows j x; sized = sized-flow w j x }
-
-pub sized-potential : (w : Room) (i : ℕ) (u : ℤ) → IsSized w.nodes w.arcs w.flows (slice_set w.potentials i u) w.reached w.labels w.walk
-sized-potential w i u = resized w.sized refl (length-set w.potentials i u) refl refl w.sized.short_walk
-
-abbrev pub with_potential : Room → ℕ → ℤ → Room
-with_potential w i u = record w { potentials = slice_set w.potentials i u; sized = sized-potential w i u }
-
 -- the first numbers of a list in the place of the old ones
 abbrev pub overwritten : List ℤ → ℕ → List ℤ → List ℤ
 overwritten old n new = take n (new ++ drop (length new) old)
-
-pub sized-potentials : (w : Room) (u : List ℤ) → IsSized w.nodes w.arcs w.flows (overwritten w.potentials w.nodes u) w.reached w.labels w.walk
-sized-potentials w u =
-    let e = length_refill w.nodes w.potentials u (sym w.sized.one_potential_each) in
-    resized w.sized refl (sym e ∙ sym w.sized.one_potential_each) refl refl w.sized.short_walk
-
-abbrev pub with_potentials : Room → List ℤ → Room
-with_potentials w u = record w { potentials = overwritten w.potentials w.nodes u; sized = sized-potentials w u }
-
-pub sized-no_walk : (w : Room) → IsSized w.nodes w.arcs w.flows w.potentials w.reached w.labels []
-sized-no_walk w = resized w.sized refl refl refl refl (omega arith)
-
-abbrev pub with_no_walk : Room → Room
-with_no_walk w = record w { walk = []; sized = sized-no_walk w }
-
-pub sized-step : (w : Room) (s : Step) → length w.walk < w.nodes → IsSized w.nodes w.arcs w.flows w.potentials w.reached w.labels (w.walk ++ s ∷ [])
-sized-step w s room = resized w.sized refl refl refl refl (let e = length-append w.walk (s ∷ []) in omega arith)
-
-abbrev pub with_step : (w : Room) (s : Step) → length w.walk < w.nodes → Room
-with_step w s room = record w { walk = w.walk ++ s ∷ []; sized = sized-step w s room }
-
--- ---- what the search writes
-
-pub sized-begun : (w : Room) (i : ℕ)
-    → IsSized w.nodes w.arcs w.flows w.potentials (slice_set (replicate w.nodes false) i true) (replicate w.nodes None) []
-sized-begun w i =
-    resized w.sized refl refl
-    (length-set (replicate w.nodes false) i true ∙ length-replicate w.nodes false ∙ sym w.sized.one_mark_each)
-    (length-replicate w.nodes None ∙ sym w.sized.one_label_each) (omega arith)
-
--- one node reached, by no step
-abbrev pub begun : Room → ℕ → Room
-begun w i = record w {
-  reached = slice_set (replicate w.nodes false) i true;
-  labels = replicate w.nodes None;
-  walk = [];
-  sized = sized-begun w i;
-}
-
-pub sized-label : (w : Room) (i : ℕ) (s : Step)
-    → IsSized w.nodes w.arcs w.flows w.potentials (slice_set w.reached i true) (slice_set w.labels i (Some s)) w.walk
-sized-label w i s =
-    resized w.sized refl refl (length-set w.reached i true) (length-set w.labels i (Some s)) w.sized.short_walk
-
--- node i reached by a step
-abbrev pub with_label : Room → ℕ → Step → Room
-with_label w i s =
-    record w { reached = slice_set w.reached i true; labels = slice_set w.labels i (Some s); sized = sized-label w i s }
-
-abbrev pub with_reached : (w : Room) (i : ℕ) (s : Step) → length w.walk < w.nodes → Room
-with_reached w i s room = with_step (with_label w i s) s room
-
-pub sized-turned : (w : Room) → IsSized w.nodes w.arcs w.flows w.potentials w.reached w.labels (reverse w.walk)
-sized-turned w = resized w.sized refl refl refl refl (let e = length-reverse w.walk in omega (arith, w.sized.short_walk))
-
-abbrev pub with_turned_walk : Room → Room
-with_turned_walk w = record w { walk = reverse w.walk; sized = sized-turned w }

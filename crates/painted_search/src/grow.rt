@@ -40,13 +40,13 @@ impl<P: Painter> Quest<'_, P> {
         ensures no_fewer { steps.old ≤ steps.new }
         ensures count { steps.new ≤ steps.old + 2 * length self.now.net.now.arcs * P.weight self.now.painter.now }
     {
-        let mut left = 0;
-        while left <= work.walk_len() {
-            let node = self.reached_node(work, left);
+        let mut done = 0;
+        while done <= work.walk_len() {
+            let node = self.reached_node(work, done);
             if self.leave(node, work, steps) {
                 return true;
             }
-            left += 1;
+            done += 1;
         }
         false
     }

@@ -46,14 +46,16 @@ impl Work {
     ghost use Rattle.theory.specs.Network.{«at»};
     ghost use Rattle.theory.specs.Cut.{holds};
     ghost use Rattle.theory.specs.Circuit.{step};
-    ghost use Rattle.painted_search.specs.Room.{most_count, IsEmpty, with_flow, with_potential, with_no_walk, with_step, begun, with_reached, with_turned_walk};
+    ghost use Rattle.painted_search.specs.Room.{count_most, IsEmpty};
+    ghost use Rattle.painted_search.specs.Writes.{with_flow, with_potential, with_no_walk, with_step};
+    ghost use Rattle.painted_search.specs.Reaching.{begun, with_reached, with_turned_walk};
     ghost use Rattle.painted_search.specs.Lending.{LendsPotentials};
 
     /// Room for this many nodes and arcs.
     pub fn take(alloc: Global, nodes: usize, arcs: usize) -> Result<Work, AllocError>
         requires some_node { 1 ≤ nodes }
-        requires few_nodes { nodes ≤ most_count }
-        requires few_arcs { arcs ≤ most_count }
+        requires few_nodes { nodes ≤ count_most }
+        requires few_arcs { arcs ≤ count_most }
         ensures { IfOk result (IsEmpty nodes arcs) }
     {
         Ok(Work {
@@ -115,7 +117,7 @@ impl Work {
         self.marks[node.0 as usize]
     }
 
-    /// The step by which the search reached the node.
+    /// The step by which the last search reached the node; `search` says where there is none.
     pub fn label(&self, node: NodeId) -> Option<Step>
         requires { node.0 < self.now.nodes }
         ensures { result ≡ slice_index_or self.now.labels node.0 None }

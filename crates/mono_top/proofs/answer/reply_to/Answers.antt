@@ -32,6 +32,19 @@ returns-in_ok-check-in-Some-Check-clause-due g c =
     (Rose (g.S.Shelf.faults c.args.shelf.now) (g.S.Shelf.faults c.check.new.shelf)))
     c.in_ok-check-in-Some-Check.field-0.status (text_of c.in_ok-check-in-Some-Check.field-0.text) answers
 
+pub returns-in_ok-feasible-in-Some-Feasible-clause-due : goal.returns-in_ok-feasible-in-Some-Feasible-clause-due
+returns-in_ok-feasible-in-Some-Feasible-clause-due g c =
+    let answers : Answers (asked c.args.words.now)
+    (outside_of (g.S.Shelf.holds c.args.shelf.now) (g.S.Shelf.rest c.feasible.new.shelf)
+    (Rose (g.S.Shelf.misses c.args.shelf.now) (g.S.Shelf.misses c.feasible.new.shelf))
+    (Rose (g.S.Shelf.faults c.args.shelf.now) (g.S.Shelf.faults c.feasible.new.shelf)))
+    c.in_ok-feasible-in-Some-Feasible.field-0.status (text_of c.in_ok-feasible-in-Some-Feasible.field-0.text) = search rules in
+    due (asked c.args.words.now)
+    (outside_of (g.S.Shelf.holds c.args.shelf.now) (g.S.Shelf.rest c.feasible.new.shelf)
+    (Rose (g.S.Shelf.misses c.args.shelf.now) (g.S.Shelf.misses c.feasible.new.shelf))
+    (Rose (g.S.Shelf.faults c.args.shelf.now) (g.S.Shelf.faults c.feasible.new.shelf)))
+    c.in_ok-feasible-in-Some-Feasible.field-0.status (text_of c.in_ok-feasible-in-Some-Feasible.field-0.text) answers
+
 pub returns-in_ok-show_curve-in-Some-Curve-clause-due : goal.returns-in_ok-show_curve-in-Some-Curve-clause-due
 returns-in_ok-show_curve-in-Some-Curve-clause-due g c =
     let answers : Answers (asked c.args.words.now)

@@ -24,8 +24,8 @@ loop-step-preserved g c =
       high = omega (arith, ints, c.in-Some.ensures.within);
     }
 
-pub returns : goal.returns
-returns g c =
+pub returns-clause-sum : goal.returns-clause-sum
+returns-clause-sum g c =
     let net = network c.args.self.now (map g.C.Listed.listing c.args.curves.now) in
     let all : c.loop-step.step-index ≡ length c.args.walk.now = omega arith in (
       each-places (λ s. IsFinite (span_end net s)) c.args.walk.now (rw all at c.loop-step.invariant.finite),

@@ -1,5 +1,6 @@
 use Rattle.std.proofs.Common.{rules, ap, ◌∙◌, w64, SFits, to_z, of_z, to_z-of_z}
-use Rattle.painted_search.specs.Room.{Room, with_flow}
+use Rattle.painted_search.specs.Room.{Room}
+use Rattle.painted_search.specs.Writes.{with_flow}
 use Rattle.painted_search.proofs.Rooms.{lists, room-same}
 use Rattle.painted_search.proofs.work.Work.set_flow.Goals as goal
 

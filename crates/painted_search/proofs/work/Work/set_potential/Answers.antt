@@ -1,8 +1,9 @@
 -- A write below the count of nodes is one in the front of the words, which are the potentials.
-use Rattle.std.proofs.Common.{◌≡◌, ◌<◌, rules, sym, ap, ◌∙◌, w64, SFits, to_z, of_z, to_z-of_z}
+use Rattle.std.proofs.Common.{◌<◌, rules, ap, ◌∙◌, w64, SFits, to_z, of_z, to_z-of_z}
 use Rattle.std.proofs.Math.Seq.{take-set-lt}
-use Rattle.painted_search.specs.Room.{Room, with_potential}
-use Rattle.painted_search.proofs.Rooms.{Lists, lists, room-same}
+use Rattle.painted_search.specs.Room.{Room}
+use Rattle.painted_search.specs.Writes.{with_potential}
+use Rattle.painted_search.proofs.Rooms.{lists, room-same}
 use Rattle.painted_search.proofs.work.Work.set_potential.Goals as goal
 
 pub returns : goal.returns

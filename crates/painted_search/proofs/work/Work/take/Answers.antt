@@ -1,4 +1,4 @@
-use Rattle.std.proofs.Common.{◌≡◌, ◌*◌, ◌≤◌, pos, ap, ◌∙◌, refl, take, replicate, arith}
+use Rattle.std.proofs.Common.{◌*◌, pos, ap, ◌∙◌, refl, take, arith}
 use Rattle.std.proofs.lemmas.List.{take-replicate}
 use Rattle.painted_search.proofs.Rooms.{clones-none}
 use Rattle.painted_search.proofs.work.Work.take.Goals as goal
