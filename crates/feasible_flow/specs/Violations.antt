@@ -6,7 +6,7 @@ use Rattle.theory.specs.Ends.{IsAtLeast, IsAtMost}
 use Rattle.theory.specs.CurveList.{first, last}
 use Rattle.theory.specs.Limits.{number_most, IsWithin}
 use Rattle.theory.specs.Network.{«at»}
-use Rattle.painted_search.specs.Room.{most_count}
+use Rattle.painted_search.specs.Room.{count_most}
 use Rattle.painted_search.proofs.Counting.{total_below}
 use Rattle.feasible_flow.specs.declared.domains.Need.{Need}
 use Rattle.feasible_flow.specs.Painting.{list_at}
@@ -38,8 +38,8 @@ abbrev pub total_violation : ℕ → List (List Ext) → List ℤ → ℕ
 total_violation m lists x = total_below m (violation_at lists x)
 
 -- the most that m flows of 0 lack
-abbrev pub most_violation : ℕ → ℕ
-most_violation m = m * number_most
+abbrev pub violation_most : ℕ → ℕ
+violation_most m = m * number_most
 
 -- ---- one arc
 
@@ -73,7 +73,7 @@ distance PlusInf x = 2 ^ 64 - 1
 
 -- the most that the violations of a net add up to where all flows are 0: no flow is further from 0 on the way
 abbrev pub near_most : ℕ
-near_most = most_violation most_count
+near_most = violation_most count_most
 
 abbrev pub AreNear : ℕ → List ℤ → Type 0
 AreNear most x = (j : ℕ) → IsWithin most («at» x j)
