@@ -9,7 +9,8 @@ const CORNER: &[u8] = b"network 1\nnode s 4\nnode t -4\narc a s t 0 2 4 5 10\n";
 const TWO_WAYS: &[u8] = b"network 1\nnode s 6\nnode t -6\narc a s t 0 1 10\narc b s t 0 1 10\n";
 
 /// Going round over a and b earns 2.
-const ROUND: &[u8] = b"network 1\nnode s\nnode t\narc a s t 0 -3 +inf\narc b t s 0 1 +inf\n";
+pub(crate) const ROUND: &[u8] =
+    b"network 1\nnode s\nnode t\narc a s t 0 -3 +inf\narc b t s 0 1 +inf\n";
 
 /// Going round earns nothing.
 const ROUND_FOR_NOTHING: &[u8] =

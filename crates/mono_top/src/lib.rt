@@ -22,4 +22,6 @@ pub use top::run;
 #[cfg(test)]
 mod check_tests;
 #[cfg(test)]
+mod feasible_tests;
+#[cfg(test)]
 mod tests;
