@@ -20,11 +20,7 @@ use Rattle.net_incidence.specs.Graph.{Graph, bare}
 use Rattle.painted_search.specs.Path.{IsFreePath}
 use Rattle.painted_search.proofs.Counting.{total_below, total_below-order}
 use Rattle.feasible_flow.specs.Painting.{list_at, painting}
-<<<<<<< HEAD
-use Rattle.feasible_flow.specs.Violations.{IsNeed, violation, violation_at, total_violation, most_violation, needed, HasRoom}
-=======
 use Rattle.feasible_flow.specs.Violations.{IsNeed, violation, violation_at, total_violation, violation_most, needed, HasRoom}
->>>>>>> 5b282979519876e7a404c5ebb9aa17f4e020e667
 use Rattle.feasible_flow.specs.UnderWay.{IsUnderWay, AreNoFurther, IsNearer, AllHaveRoom}
 use Rattle.feasible_flow.proofs.OneArc.{violation-no_further, violation-falls, violation-most, need-room, needed-most}
 use Rattle.feasible_flow.proofs.Lists.{AreCurves}
@@ -192,17 +188,6 @@ nearer-sent g lists x y walk s need amount from to curves way there lacks from_i
 -- ---- ranges
 
 pub total-within : (g : Graph) (lists : List (List Ext)) (x : List ℤ) → IsUnderWay g lists x
-<<<<<<< HEAD
-    → total_violation (length g.arcs) lists x ≤ most_violation (length g.arcs)
-total-within g lists x way = let h = way.high 0 in let l = way.low 0 in omega (arith, ints)
-
-pub flow-within : (g : Graph) (lists : List (List Ext)) (x : List ℤ) → IsUnderWay g lists x → (j : ℕ)
-    → IsWithin (most_violation (length g.arcs)) («at» x j)
-flow-within g lists x way j = let h = way.high j in let l = way.low j in (omega (arith, ints), omega (arith, ints))
-
-pub need-within : (g : Graph) (lists : List (List Ext)) (x : List ℤ) (j need amount : ℕ) (forward : Bool) → IsUnderWay g lists x
-    → j < length g.arcs → IsNeed (list_at lists j) («at» x j) forward need → amount ≤ need → amount ≤ most_violation (length g.arcs)
-=======
     → total_violation (length g.arcs) lists x ≤ violation_most (length g.arcs)
 total-within g lists x way = let h = way.high 0 in let l = way.low 0 in omega (arith, ints)
 
@@ -212,7 +197,6 @@ flow-within g lists x way j = let h = way.high j in let l = way.low j in (omega 
 
 pub need-within : (g : Graph) (lists : List (List Ext)) (x : List ℤ) (j need amount : ℕ) (forward : Bool) → IsUnderWay g lists x
     → j < length g.arcs → IsNeed (list_at lists j) («at» x j) forward need → amount ≤ need → amount ≤ violation_most (length g.arcs)
->>>>>>> 5b282979519876e7a404c5ebb9aa17f4e020e667
 need-within g lists x j need amount forward way there lacks most =
     let all = total-within g lists x way in
     let term = total_below-term (length g.arcs) j (violation_at lists x) there in
@@ -229,11 +213,7 @@ zero-outflow n pick x zeros = sum_below-zero n (λ j. counted (pick j) (x j)) (�
     by_pick false = refl
 
 pub total-most : (m : ℕ) (lists : List (List Ext)) (x : List ℤ) → AreCurves lists → ((j : ℕ) → «at» x j ≡ pos 0)
-<<<<<<< HEAD
-    → total_violation m lists x ≤ most_violation m
-=======
     → total_violation m lists x ≤ violation_most m
->>>>>>> 5b282979519876e7a404c5ebb9aa17f4e020e667
 total-most m lists x curves zeros =
     total_below-most m number_most (violation_at lists x)
     (λ j. rw (zeros j) (violation-most (list_at lists j) (curves.are_lists j) (curves.within j)))

@@ -2,26 +2,6 @@
 use Rattle.std.proofs.Common.{ℕ, zero, suc, ◌+◌, ◌*◌, ◌≤◌, arith}
 use Rattle.std.proofs.Math.Nat.{mul-le-mul_left}
 use Rattle.theory.specs.ReadingBound.{unscaled_unit}
-<<<<<<< HEAD
-use Rattle.feasible_flow.specs.Violations.{most_violation}
-use Rattle.feasible_flow.specs.UnderWay.{round_cost}
-
-pub begins-within : (n m violation start : ℕ) → violation ≤ most_violation m
-    → start + violation * round_cost n m ≤ start + (most_violation m + 0) * round_cost n m
-begins-within n m violation start most = let e = mul-le-mul_left (round_cost n m) most in omega (arith, e)
-
--- with the violation and the readings before and after one more arc
-pub one-more : (n m violation violation' j start old new : ℕ) → old + violation * round_cost n m ≤ start + (most_violation m + j) * round_cost n m
-    → new + violation' * round_cost n m ≤ old + violation * round_cost n m + round_cost n m
-    → new + violation' * round_cost n m ≤ start + (most_violation m + (j + 1)) * round_cost n m
-one-more n m violation violation' j start old new before more = omega (arith, before, more)
-
-all-spent : (n m : ℕ) → (most_violation m + m) * round_cost n m ≤ 3 * unscaled_unit n m
-all-spent n zero = omega arith
-all-spent n (suc m) = omega arith
-
-pub spent-most : (n m violation j start new : ℕ) → j ≤ m → new + violation * round_cost n m ≤ start + (most_violation m + j) * round_cost n m
-=======
 use Rattle.feasible_flow.specs.Violations.{violation_most}
 use Rattle.feasible_flow.specs.UnderWay.{round_cost}
 
@@ -40,7 +20,6 @@ all-spent n zero = omega arith
 all-spent n (suc m) = omega arith
 
 pub spent-most : (n m violation j start new : ℕ) → j ≤ m → new + violation * round_cost n m ≤ start + (violation_most m + j) * round_cost n m
->>>>>>> 5b282979519876e7a404c5ebb9aa17f4e020e667
     → new ≤ start + 3 * unscaled_unit n m
 spent-most n m violation j start new few within =
     let e = mul-le-mul_left (round_cost n m) few in

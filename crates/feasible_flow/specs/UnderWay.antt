@@ -8,22 +8,13 @@ use Rattle.theory.specs.Circuit.{step}
 use Rattle.net_incidence.specs.Graph.{Graph, bare}
 use Rattle.painted_search.specs.Room.{Room}
 use Rattle.feasible_flow.specs.Painting.{list_at}
-<<<<<<< HEAD
-use Rattle.feasible_flow.specs.Violations.{violation_at, total_violation, most_violation, HasRoom}
-=======
 use Rattle.feasible_flow.specs.Violations.{violation_at, total_violation, violation_most, HasRoom}
->>>>>>> 5b282979519876e7a404c5ebb9aa17f4e020e667
 
 pub record IsUnderWay (g : Graph) (lists : List (List Ext)) (x : List ℤ) : Type 0 where
   pub one_each : length x ≡ length g.arcs
   pub conserved : IsConserved (bare g) («at» x)
-<<<<<<< HEAD
-  pub high : (j : ℕ) → («at» x j +ℤ pos (total_violation (length g.arcs) lists x)) ≤ℤ pos (most_violation (length g.arcs))
-  pub low : (j : ℕ) → pos (total_violation (length g.arcs) lists x) ≤ℤ («at» x j +ℤ pos (most_violation (length g.arcs)))
-=======
   pub high : (j : ℕ) → («at» x j +ℤ pos (total_violation (length g.arcs) lists x)) ≤ℤ pos (violation_most (length g.arcs))
   pub low : (j : ℕ) → pos (total_violation (length g.arcs) lists x) ≤ℤ («at» x j +ℤ pos (violation_most (length g.arcs)))
->>>>>>> 5b282979519876e7a404c5ebb9aa17f4e020e667
 
 -- no violation is greater than it was
 abbrev pub AreNoFurther : List (List Ext) → List ℤ → List ℤ → Type 0

@@ -38,13 +38,8 @@ abbrev pub total_violation : ℕ → List (List Ext) → List ℤ → ℕ
 total_violation m lists x = total_below m (violation_at lists x)
 
 -- the most that m flows of 0 lack
-<<<<<<< HEAD
-abbrev pub most_violation : ℕ → ℕ
-most_violation m = m * number_most
-=======
 abbrev pub violation_most : ℕ → ℕ
 violation_most m = m * number_most
->>>>>>> 5b282979519876e7a404c5ebb9aa17f4e020e667
 
 -- ---- one arc
 
@@ -78,11 +73,7 @@ distance PlusInf x = 2 ^ 64 - 1
 
 -- the most that the violations of a net add up to where all flows are 0: no flow is further from 0 on the way
 abbrev pub near_most : ℕ
-<<<<<<< HEAD
-near_most = most_violation count_most
-=======
 near_most = violation_most count_most
->>>>>>> 5b282979519876e7a404c5ebb9aa17f4e020e667
 
 abbrev pub AreNear : ℕ → List ℤ → Type 0
 AreNear most x = (j : ℕ) → IsWithin most («at» x j)

@@ -1,10 +1,6 @@
 use Rattle.std.proofs.Common.{◌≡◌, ℕ, ◌+◌, ◌*◌, ◌<◌, ◌≤◌, length, map}
 use Rattle.painted_search.specs.Fits.{Fits}
-<<<<<<< HEAD
-use Rattle.feasible_flow.specs.Violations.{violation_at, most_violation}
-=======
 use Rattle.feasible_flow.specs.Violations.{violation_at, violation_most}
->>>>>>> 5b282979519876e7a404c5ebb9aa17f4e020e667
 use Rattle.feasible_flow.specs.UnderWay.{IsUnderWay, round_cost, readings_left}
 use Rattle.feasible_flow.proofs.passing.feasible_flow.Given as goal
 
@@ -16,9 +12,5 @@ invariant-loop-j g l = record {
   potentials : l.work.potentials ≡ l.fn.work.potentials;
   no_fewer : l.fn.steps ≤ l.steps;
   count : l.steps + readings_left l.net (map g.C.Monotone.items l.domains.curves.now) l.work.flows
-<<<<<<< HEAD
-      ≤ l.fn.steps + (most_violation (length l.net.arcs) + l.j) * round_cost l.net.nodes (length l.net.arcs);
-=======
       ≤ l.fn.steps + (violation_most (length l.net.arcs) + l.j) * round_cost l.net.nodes (length l.net.arcs);
->>>>>>> 5b282979519876e7a404c5ebb9aa17f4e020e667
 }
