@@ -1,6 +1,6 @@
 // Feasible flows and potentials, row by row.
 use crate::check_tests::ROUND;
-use crate::tests::{EMPTY, ORDINARY, compare, plain};
+use crate::tests::{EMPTY, ORDINARY, Row, compare, plain};
 use std::test::Fail;
 
 /// The arc a takes 3 of the 5 that the supply brings, and going round over c and d earns 2.
@@ -23,18 +23,26 @@ fn feasibility(rt: HostRuntime) -> Result<(), Fail> {
             0,
             b"flow yes\nnode s 5\nnode t -5\narc a 5\ntension yes\nnode s 0\nnode t 0\n",
         ),
-        plain(
-            &["feasible", "a"],
-            ROUND,
-            2,
-            b"flow yes\nnode s 0\nnode t 0\narc a 0\narc b 0\ntension no -2\nstep + arc a\nstep + arc b\n",
-        ),
-        plain(
-            &["feasible", "a"],
-            BOTH_REFUSED,
-            1,
-            b"flow no -2\nside s\ntension no -2\nstep + arc c\nstep + arc d\n",
-        ),
+        Row {
+            or_written: Some(
+                b"flow yes\nnode s 0\nnode t 0\narc a 0\narc b 0\ntension no -2\nstep + arc b\nstep + arc a\n",
+            ),
+            ..plain(
+                &["feasible", "a"],
+                ROUND,
+                2,
+                b"flow yes\nnode s 0\nnode t 0\narc a 0\narc b 0\ntension no -2\nstep + arc a\nstep + arc b\n",
+            )
+        },
+        Row {
+            or_written: Some(b"flow no -2\nside s\ntension no -2\nstep + arc d\nstep + arc c\n"),
+            ..plain(
+                &["feasible", "a"],
+                BOTH_REFUSED,
+                1,
+                b"flow no -2\nside s\ntension no -2\nstep + arc c\nstep + arc d\n",
+            )
+        },
         plain(&["feasible", "b"], EMPTY, 6, b"missing file 1\n"),
         plain(&["feasible", "a"], b"", 5, b"model line 1: header\n"),
     ];
