@@ -2,7 +2,7 @@
 -- counted at most as all numbers below n are. By induction: the last of the numbers is counted by itself, and the others no
 -- less if f leaves that one out, since none of them is equal to it.
 use Rattle.std.proofs.Common.{◌≡◌, ◌≢◌, ℕ, zero, suc, ◌+◌, ◌<◌, ◌≤◌, ◌==◌, if◌then◌else◌, refl, sym, ap, ⊎_elim, eq-eqb, arith}
-use Rattle.std.proofs.lemmas.Bool.{cases_lt, cases_eq, ne_eqb}
+use Rattle.std.proofs.lemmas.Bool.{cases_lt, ne_eqb}
 
 abbrev pub total_below : ℕ → (ℕ → ℕ) → ℕ
 total_below zero f = 0

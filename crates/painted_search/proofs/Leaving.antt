@@ -1,7 +1,6 @@
 -- A node is left when each free step at it was passed. What was passed stays so as the tree goes on: colours stay, and the
 -- reached nodes stay reached. A step that begins at the node stands among the node's steps, so none is forgotten.
 use Rattle.std.proofs.Common.{◌≡◌, ℕ, ℤ, ◌+◌, ◌<◌, ◌≤◌, IsTrue, List, length, sym, ap, ◌∙◌, subst, below_more, arith}
-use Rattle.std.proofs.lemmas.Bool.{cases_lt}
 use Rattle.theory.specs.declared.colour.Colour.{Colour}
 use Rattle.theory.specs.declared.network.Step.{Step}
 use Rattle.theory.specs.Network.{Network}

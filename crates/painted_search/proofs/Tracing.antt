@@ -1,14 +1,14 @@
 -- Back along the labels. The steps that were found, last first, are a branch from the node at hand to the goal. That node's label
 -- is the step of the tree that reached it, and begins at a node with a smaller number: put in front, it makes the branch longer
 -- by one. The root has no label, and is the only reached node without one.
-use Rattle.std.proofs.Common.{◌≡◌, ◌≢◌, ℕ, ℤ, zero, suc, ◌+◌, ◌-◌, ◌<◌, ◌≤◌, IsTrue, Option, Some, None, List, [], ◌∷◌, ◌++◌, length, reverse, refl, sym, ap, ◌∙◌, subst, length-append, arith}
+use Rattle.std.proofs.Common.{◌≡◌, ◌≢◌, ℕ, zero, suc, ◌-◌, ◌<◌, ◌≤◌, IsTrue, Option, Some, None, List, [], ◌∷◌, length, reverse, refl, sym, ap, ◌∙◌, subst, length-append, arith}
 use Rattle.std.proofs.lemmas.List.{reverse-append, length-reverse}
 use Rattle.std.proofs.lemmas.Option.{none-some, same_Some}
 use Rattle.theory.specs.declared.colour.Colour.{Colour}
 use Rattle.theory.specs.declared.network.Step.{Step}
 use Rattle.theory.specs.Network.{Network}
 use Rattle.theory.specs.Cut.{holds}
-use Rattle.theory.specs.Circuit.{step, begin_of, end_of}
+use Rattle.theory.specs.Circuit.{step, begin_of}
 use Rattle.painted_search.specs.Room.{Room, with_no_walk, with_step, with_turned_walk}
 use Rattle.painted_search.specs.Path.{IsFreePath, LeadAlong, label_at}
 use Rattle.painted_search.specs.Tree.{node_at, IsTree, IsSameButWalk}

@@ -1,9 +1,10 @@
 -- Room: what the working room of a solve is seen as. A flow for each arc, a potential, a mark and a label for each node, a
--- walk, and the counts of nodes and arcs that it was taken for, with the proof that the lengths agree with these.
+-- walk, two more numbers for each node for the caller's own use, and the counts of nodes and arcs that it was taken for, with
+-- the proof that the lengths agree with these.
 -- A write gives the room with one part changed: `with_flow` and its like, each with the proof for what it wrote.
-use Rattle.std.specs.Prelude.{◌≡◌, ℕ, ◌+◌, ◌<◌, ◌≤◌, ◌^◌, ℤ, pos, Bool, true, false, Option, Some, None, List, [], ◌∷◌, ◌++◌, length, take, drop, replicate, reverse, slice_set}
-use Rattle.std.proofs.Common.{refl, sym, ◌∙◌, arith, length-append}
-use Rattle.std.proofs.lemmas.List.{length-set, length-replicate, length-reverse}
+use Rattle.std.specs.Prelude.{◌≡◌, ℕ, ◌*◌, ◌<◌, ◌≤◌, ◌^◌, ℤ, pos, Bool, true, false, Option, Some, None, List, [], ◌∷◌, ◌++◌, length, take, drop, replicate, reverse, slice_set}
+use Rattle.std.proofs.Common.{refl, sym, ◌∙◌, arith, length-append, length-drop}
+use Rattle.std.proofs.lemmas.List.{length-set, length-replicate, length-reverse, length-take-le}
 use Rattle.std.specs.List.{length_refill}
 use Rattle.theory.specs.declared.network.Step.{Step}
 
@@ -29,7 +30,9 @@ pub record Room : Type 0 where
   pub reached : List Bool
   pub labels : List (Option Step)
   pub walk : List Step
+  pub scratch : List ℤ
   pub sized : IsSized nodes arcs flows potentials reached labels walk
+  pub two_words_each : length scratch ≡ 2 * nodes
 
 -- the room as it is taken: all numbers 0, no node marked, no label, no step
 pub record IsEmpty (count_of_nodes count_of_arcs : ℕ) (w : Room) : Type 0 where
@@ -40,6 +43,7 @@ pub record IsEmpty (count_of_nodes count_of_arcs : ℕ) (w : Room) : Type 0 wher
   pub reached : w.reached ≡ replicate count_of_nodes false
   pub labels : w.labels ≡ replicate count_of_nodes None
   pub walk : w.walk ≡ []
+  pub scratch : w.scratch ≡ replicate (2 * count_of_nodes) (pos 0)
 
 -- ---- the room with one part changed
 
@@ -71,17 +75,40 @@ sized-potential w i u = resized w.sized refl (length-set w.potentials i u) refl 
 abbrev pub with_potential : Room → ℕ → ℤ → Room
 with_potential w i u = record w { potentials = slice_set w.potentials i u; sized = sized-potential w i u }
 
--- the first numbers of a list in the place of the old ones
-abbrev pub overwritten : List ℤ → ℕ → List ℤ → List ℤ
-overwritten old n new = take n (new ++ drop (length new) old)
+-- all words of the nodes, with the first of them written over: the potentials, then the scratch
+abbrev pub overwritten : Room → List ℤ → List ℤ
+overwritten w words = take (3 * w.nodes) (words ++ drop (length words) (w.potentials ++ w.scratch))
 
-pub sized-potentials : (w : Room) (u : List ℤ) → IsSized w.nodes w.arcs w.flows (overwritten w.potentials w.nodes u) w.reached w.labels w.walk
-sized-potentials w u =
-    let e = length_refill w.nodes w.potentials u (sym w.sized.one_potential_each) in
-    resized w.sized refl (sym e ∙ sym w.sized.one_potential_each) refl refl w.sized.short_walk
+pub length-words : (w : Room) (words : List ℤ) → length (overwritten w words) ≡ 3 * w.nodes
+length-words w words =
+    let all = length-append w.potentials w.scratch in
+    sym (length_refill (3 * w.nodes) (w.potentials ++ w.scratch) words (omega (arith, w.sized.one_potential_each, w.two_words_each)))
+    ∙ omega (arith, w.sized.one_potential_each, w.two_words_each)
+
+pub sized-potentials : (w : Room) (words : List ℤ)
+    → IsSized w.nodes w.arcs w.flows (take w.nodes (overwritten w words)) w.reached w.labels w.walk
+sized-potentials w words =
+    let all = length-words w words in
+    let front = length-take-le w.nodes (overwritten w words) (omega arith) in
+    resized w.sized refl (front ∙ sym w.sized.one_potential_each) refl refl w.sized.short_walk
+
+pub sized-scratch : (w : Room) (words : List ℤ) → length (drop w.nodes (overwritten w words)) ≡ 2 * w.nodes
+sized-scratch w words =
+    let all = length-words w words in
+    let rest = length-drop w.nodes (overwritten w words) in
+    omega arith
 
 abbrev pub with_potentials : Room → List ℤ → Room
-with_potentials w u = record w { potentials = overwritten w.potentials w.nodes u; sized = sized-potentials w u }
+with_potentials w words = record w {
+  potentials = take w.nodes (overwritten w words);
+  scratch = drop w.nodes (overwritten w words);
+  sized = sized-potentials w words;
+  two_words_each = sized-scratch w words;
+}
+
+abbrev pub with_scratch : Room → ℕ → ℤ → Room
+with_scratch w k z =
+    record w { scratch = slice_set w.scratch k z; two_words_each = length-set w.scratch k z ∙ w.two_words_each }
 
 pub sized-no_walk : (w : Room) → IsSized w.nodes w.arcs w.flows w.potentials w.reached w.labels []
 sized-no_walk w = resized w.sized refl refl refl refl (omega arith)
@@ -131,3 +158,20 @@ sized-turned w = resized w.sized refl refl refl refl (let e = length-reverse w.w
 
 abbrev pub with_turned_walk : Room → Room
 with_turned_walk w = record w { walk = reverse w.walk; sized = sized-turned w }
+
+-- ---- what other passes write
+
+-- node i marked and labelled as it was
+pub sized-marked : (w : Room) (i : ℕ) → IsSized w.nodes w.arcs w.flows w.potentials (slice_set w.reached i true) w.labels w.walk
+sized-marked w i = resized w.sized refl refl (length-set w.reached i true) refl w.sized.short_walk
+
+abbrev pub with_mark : Room → ℕ → Room
+with_mark w i = record w { reached = slice_set w.reached i true; sized = sized-marked w i }
+
+pub sized-relabelled : (w : Room) (i : ℕ) (s : Step)
+    → IsSized w.nodes w.arcs w.flows w.potentials w.reached (slice_set w.labels i (Some s)) w.walk
+sized-relabelled w i s = resized w.sized refl refl refl (length-set w.labels i (Some s)) w.sized.short_walk
+
+-- node i labelled by a step, and marked as it was
+abbrev pub relabelled : Room → ℕ → Step → Room
+relabelled w i s = record w { labels = slice_set w.labels i (Some s); sized = sized-relabelled w i s }

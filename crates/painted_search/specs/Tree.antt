@@ -1,6 +1,6 @@
 -- The tree of a search. Its nodes are numbered in the order in which they were reached: node 0 is the root, node k + 1 the end
 -- of step k of the walk. Each step begins at an earlier node of the tree.
-use Rattle.std.specs.Prelude.{◌≡◌, ◌≢◌, ℕ, zero, suc, ◌+◌, ◌<◌, ◌≤◌, ℤ, false, IsTrue, Some, None, List, length}
+use Rattle.std.specs.Prelude.{◌≡◌, ◌≢◌, ℕ, zero, suc, ◌<◌, ◌≤◌, ℤ, false, IsTrue, Some, None, List, length}
 use Rattle.theory.specs.declared.colour.Colour.{Colour}
 use Rattle.theory.specs.declared.network.Step.{Step}
 use Rattle.theory.specs.Network.{Network}

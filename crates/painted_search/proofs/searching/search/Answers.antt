@@ -1,4 +1,4 @@
-use Rattle.std.proofs.Common.{◌≡◌, ap, ◌∙◌, rules}
+use Rattle.std.proofs.Common.{ap, ◌∙◌}
 use Rattle.net_incidence.specs.Graph.{bare}
 use Rattle.painted_search.specs.Room.{Room}
 use Rattle.painted_search.proofs.Ending.{growth-is}

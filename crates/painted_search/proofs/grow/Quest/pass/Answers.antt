@@ -1,5 +1,4 @@
-use Rattle.std.proofs.Common.{◌≡◌, false, sym, ◌∙◌, rules}
-use Rattle.theory.specs.Cut.{holds}
+use Rattle.std.proofs.Common.{◌∙◌, rules}
 use Rattle.theory.specs.Circuit.{end_of}
 use Rattle.net_incidence.specs.Graph.{bare}
 use Rattle.painted_search.specs.Path.{IsFreeStep}

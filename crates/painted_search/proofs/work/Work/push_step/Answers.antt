@@ -1,4 +1,4 @@
-use Rattle.std.proofs.Common.{◌≡◌, ◌++◌, ◌∷◌, [], ap, ◌∙◌}
+use Rattle.std.proofs.Common.{◌++◌, ◌∷◌, [], ap, ◌∙◌}
 use Rattle.painted_search.specs.Room.{Room}
 use Rattle.painted_search.proofs.Rooms.{with_walk, room-same}
 use Rattle.painted_search.proofs.work.Work.push_step.Goals as goal

@@ -1,0 +1,3 @@
+-- Curves at a flow:
+pub mod NextFlow
+pub mod Prices

@@ -1,0 +1,2 @@
+-- Along steps:
+pub mod Along
