@@ -1,3 +1,10 @@
 -- Curves at a flow:
 pub mod NextFlow
 pub mod Prices
+-- Sets of nodes:
+pub mod Marking
+-- How it spreads:
+pub mod Spreading
+pub mod Relaxing
+pub mod Bundles
+pub mod Settling

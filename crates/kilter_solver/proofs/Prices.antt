@@ -1,5 +1,5 @@
 -- The price of a step by the slopes at the flow of its arc.
-use Rattle.std.proofs.Common.{◌≡◌, ℕ, ℤ, pos, ◌+ℤ◌, ◌-ℤ◌, neg_ℤ, ◌≤ℤ◌, true, false, Some, None, List, refl, arith}
+use Rattle.std.proofs.Common.{◌≡◌, ℕ, ℤ, pos, ◌+ℤ◌, ◌-ℤ◌, neg_ℤ, ◌≤ℤ◌, Bool, true, false, Option, Some, None, List, refl, sym, subst, arith}
 use Rattle.std.proofs.lemmas.Int.{ints}
 use Rattle.theory.specs.declared.ext.Ext.{Ext}
 use Rattle.theory.specs.declared.ext.Ext.TheVariants.{MinusInf, At, PlusInf}
@@ -55,3 +55,17 @@ module _ (items : List Ext) (list : IsCurveList items) (within : AreWithin numbe
         (omega (arith, ints)) (omega (arith, ints)));
     small = (let low = (slopes-within number_most items x (At a) high list within slopes).low in (omega (arith, ints, low.1), omega (arith, ints, low.0)));
   }
+
+  pub price-forward : (forward : Bool) (y : ℤ) (low high : Ext) (price : Option ℤ) → forward ≡ true → y ≡ x → IsSlopes items y low high
+      → price ≡ price_up high → IsPrice items forward x price
+  price-forward forward y low high price is_forward same slopes is =
+      subst (λ (f : Bool). IsPrice items f x price) (sym is_forward)
+      (subst (λ (p : Option ℤ). IsPrice items true x p) (sym is)
+      (price_up-is low high (subst (λ (z : ℤ). IsSlopes items z low high) same slopes)))
+
+  pub price-backward : (forward : Bool) (y : ℤ) (low high : Ext) (price : Option ℤ) → forward ≡ false → y ≡ x → IsSlopes items y low high
+      → price ≡ price_down low → IsPrice items forward x price
+  price-backward forward y low high price is_backward same slopes is =
+      subst (λ (f : Bool). IsPrice items f x price) (sym is_backward)
+      (subst (λ (p : Option ℤ). IsPrice items false x p) (sym is)
+      (price_down-is low high (subst (λ (z : ℤ). IsSlopes items z low high) same slopes)))

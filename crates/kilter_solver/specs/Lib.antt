@@ -1,2 +1,9 @@
--- Along steps:
+-- Along steps, at nodes:
 pub mod Along
+pub mod Excess
+pub mod Ready
+pub mod Marks
+-- The search for a cheapest route:
+pub mod Spread
+-- Curves by the arc:
+pub mod BundleFacts
