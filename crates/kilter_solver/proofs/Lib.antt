@@ -8,3 +8,8 @@ pub mod Spreading
 pub mod Relaxing
 pub mod Bundles
 pub mod Settling
+-- How flow moves:
+pub mod Lowering
+pub mod Pushing
+pub mod Cutting
+pub mod Serving

@@ -5,5 +5,6 @@ pub mod Ready
 pub mod Marks
 -- The search for a cheapest route:
 pub mod Spread
+pub mod Routing
 -- Curves by the arc:
 pub mod BundleFacts

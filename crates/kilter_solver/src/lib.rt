@@ -2,7 +2,9 @@
 #![tactic(auto)]
 
 mod bundle;
+mod routes;
 mod spread;
 mod words;
 
 pub use bundle::{Bundle, Plain};
+pub use routes::{Routed, route};
