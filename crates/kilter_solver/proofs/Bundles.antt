@@ -1,5 +1,5 @@
 -- The curve of an arc among those of a slice.
-use Rattle.std.proofs.Common.{◌≡◌, ℕ, zero, suc, ◌<◌, ◌≤◌, List, [], ◌∷◌, length, get_or, map, max, sym, arith}
+use Rattle.std.proofs.Common.{◌≡◌, ℕ, zero, suc, ◌<◌, ◌≤◌, List, [], ◌∷◌, length, get_or, map, sym, arith}
 use Rattle.std.proofs.lemmas.List.{get_or-map}
 use Rattle.theory.specs.declared.ext.Ext.{Ext}
 use Rattle.kilter_solver.specs.Along.{list_at}

@@ -2,30 +2,28 @@
 -- arc that leaves them carries the greatest flow of its domain and each that enters them the least. So the cut sum is the flow
 -- that leaves the set less what enters it, which is minus the sum of the excesses in the set: none is below 0, and that of the
 -- source is above it. Where no node has a surplus, all excesses are 0, since their sum is.
-use Rattle.std.proofs.Common.{◌≡◌, ◌≢◌, ℕ, zero, suc, ◌+◌, ◌<◌, ◌≤◌, ◌==◌, ℤ, pos, ◌+ℤ◌, ◌-ℤ◌, neg_ℤ, ◌≤ℤ◌, ◌<ℤ◌, Bool, true, false, not, ◌&&◌, IsTrue, if◌then◌else◌, List, [], ◌∷◌, length, map, refl, sym, ap, ◌∙◌, subst, ⊎_elim, arith}
-use Rattle.std.specs.Prelude.{slice_index_or}
+use Rattle.std.proofs.Common.{◌≡◌, ℕ, zero, suc, ◌<◌, ℤ, pos, ◌+ℤ◌, ◌-ℤ◌, neg_ℤ, ◌≤ℤ◌, ◌<ℤ◌, Bool, true, false, not, ◌&&◌, IsTrue, if◌then◌else◌, List, [], ◌∷◌, length, refl, sym, ap, ◌∙◌, subst, arith}
 use Rattle.std.proofs.lemmas.Int.{ints}
 use Rattle.std.proofs.lemmas.Bool.{false≢true}
 use Rattle.std.proofs.lemmas.List.{length-map}
 use Rattle.theory.specs.declared.ext.Ext.{Ext}
-use Rattle.theory.specs.declared.ext.Ext.TheVariants.{MinusInf, At, PlusInf}
+use Rattle.theory.specs.declared.ext.Ext.TheVariants.{At}
 use Rattle.theory.specs.Sums.{counted}
 use Rattle.theory.specs.Ends.{IsFinite, whole, negated}
 use Rattle.theory.specs.CurveList.{IsCurveList, first, last}
-use Rattle.theory.specs.Network.{Network, IsNetwork, «at», curve, tail, head}
-use Rattle.theory.specs.Conserved.{divergence, tension, IsConserved}
-use Rattle.theory.specs.Cut.{holds, IsNegativeCut, cut_end, cut_sum}
-use Rattle.theory.specs.Circuit.{begin_of, end_of}
+use Rattle.theory.specs.Network.{IsNetwork, «at», curve, tail, head}
+use Rattle.theory.specs.Conserved.{divergence, IsConserved}
+use Rattle.theory.specs.Cut.{holds, IsNegativeCut, cut_end}
 use Rattle.theory.specs.OnCurve.{IsOnCurve}
-use Rattle.theory.proofs.SumLaw.{cut_law, crossing, over_nodes, divergence-total}
+use Rattle.theory.proofs.SumLaw.{cut_law, crossing, divergence-total}
 use Rattle.theory.proofs.SumsBelow.{sum_below-same, sum_below-zero, sum_below-add, sum_below-term, sum_below-equal_terms}
 use Rattle.net_incidence.specs.Graph.{Graph, bare}
 use Rattle.net_incidence.specs.Incidence.{over}
 use Rattle.painted_search.specs.Room.{Room}
 use Rattle.painted_search.specs.Unpriced.{free_at_rest, unpriced}
-use Rattle.kilter_solver.specs.Along.{list_at, rise, directed}
+use Rattle.kilter_solver.specs.Along.{list_at}
 use Rattle.kilter_solver.specs.Excess.{excess, AreExcesses}
-use Rattle.kilter_solver.specs.Spread.{key, level, is_near, Spread, IsStuck}
+use Rattle.kilter_solver.specs.Spread.{is_near, IsStuck}
 use Rattle.kilter_solver.specs.Routing.{IsBalancing}
 use Rattle.kilter_solver.proofs.NextFlow.{at_last, at_first}
 

@@ -1,12 +1,11 @@
 -- The price of a step by the slopes at the flow of its arc.
-use Rattle.std.proofs.Common.{◌≡◌, ℕ, ℤ, pos, ◌+ℤ◌, ◌-ℤ◌, neg_ℤ, ◌≤ℤ◌, Bool, true, false, Option, Some, None, List, refl, sym, subst, arith}
+use Rattle.std.proofs.Common.{◌≡◌, ℤ, pos, ◌+ℤ◌, ◌-ℤ◌, neg_ℤ, ◌≤ℤ◌, Bool, true, false, Option, List, sym, subst, arith}
 use Rattle.std.proofs.lemmas.Int.{ints}
 use Rattle.theory.specs.declared.ext.Ext.{Ext}
 use Rattle.theory.specs.declared.ext.Ext.TheVariants.{MinusInf, At, PlusInf}
 use Rattle.theory.specs.CurveList.{IsCurveList}
-use Rattle.theory.specs.OnCurve.{IsOnCurve}
 use Rattle.theory.specs.Readings.{IsUnder, IsOver, IsSlopes}
-use Rattle.theory.specs.Limits.{AreWithin, IsWithin, number_most}
+use Rattle.theory.specs.Limits.{AreWithin, number_most}
 use Rattle.curve_views.proofs.ReadingBounds.{slopes-within}
 use Rattle.kilter_solver.specs.Along.{IsPrice, price_up, price_down}
 use Rattle.kilter_solver.proofs.NextFlow.{next_flow, flow_before, pair-same}

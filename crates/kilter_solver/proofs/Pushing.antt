@@ -2,7 +2,7 @@
 -- many steps as there are nodes. An arc that a step moves has one end of the step's higher rank, so all arcs between nodes of
 -- lower rank are still as they were, and the labels over them still tight. A step moves one unit of divergence from where it ends
 -- to where it begins.
-use Rattle.std.proofs.Common.{◌≡◌, ◌≢◌, ◌⊎◌, inl, inr, ℕ, suc, ◌+◌, ◌<◌, ◌≤◌, ◌==◌, ℤ, pos, ◌+ℤ◌, ◌-ℤ◌, neg_ℤ, ◌≤ℤ◌, Bool, true, false, IsTrue, if◌then◌else◌, Option, Some, None, List, length, set, refl, sym, ap, ◌∙◌, subst, ⊎_elim, arith}
+use Rattle.std.proofs.Common.{◌≡◌, ◌≢◌, inl, inr, ℕ, ◌+◌, ◌<◌, ◌≤◌, ◌==◌, ℤ, pos, ◌+ℤ◌, ◌-ℤ◌, neg_ℤ, Bool, true, false, if◌then◌else◌, Some, List, length, set, refl, sym, ap, ◌∙◌, subst, ⊎_elim, arith}
 use Rattle.std.proofs.lemmas.Int.{ints}
 use Rattle.std.proofs.lemmas.Bool.{cases_eq}
 use Rattle.std.proofs.lemmas.List.{get_or-set_same, get_or-set_other}
@@ -13,15 +13,14 @@ use Rattle.theory.specs.Limits.{IsWithin}
 use Rattle.theory.specs.OnCurve.{IsOnCurve}
 use Rattle.theory.specs.Network.{Network, «at», tail, head}
 use Rattle.theory.specs.Conserved.{divergence, tension}
-use Rattle.theory.specs.Cut.{holds}
 use Rattle.theory.specs.Circuit.{begin_of, end_of}
 use Rattle.theory.proofs.SumsBelow.{sum_below-change}
 use Rattle.net_incidence.specs.Graph.{Graph, bare}
 use Rattle.painted_search.specs.Room.{Room, with_flow}
 use Rattle.painted_search.specs.Path.{label_at}
-use Rattle.kilter_solver.specs.Along.{list_at, directed, rise, IsPairAlong, moved}
+use Rattle.kilter_solver.specs.Along.{list_at, directed, IsPairAlong, moved}
 use Rattle.kilter_solver.specs.Ready.{AreOnCurves}
-use Rattle.kilter_solver.specs.Routing.{IsOn, IsTight, TightTo, IsRoute, one_at, IsSameButFlows, IsPushed}
+use Rattle.kilter_solver.specs.Routing.{IsOn, IsTight, IsRoute, one_at, IsPushed}
 
 -- ---- the divergence where one flow moves
 

@@ -1,8 +1,8 @@
 -- Trying a step from the opened node. Its end is settled already, and then no tension above that of the step is within the
 -- level's rise; or it can't be passed; or it is offered a key by the price, and keeps the lesser of this and its own. The key
 -- offered is no less than that of the opened node, since a price is no less than the tension of a pair.
-use Rattle.std.proofs.Common.{◌≡◌, ◌≢◌, ℕ, suc, ◌+◌, ◌*◌, ◌<◌, ◌≤◌, ◌==◌, ℤ, pos, ◌+ℤ◌, ◌-ℤ◌, ◌≤ℤ◌, Bool, true, false, ◌||◌, if◌then◌else◌, IsTrue, Option, Some, None, List, length, ◌⊎◌, inl, inr, refl, sym, ap, ◌∙◌, subst, ⊎_elim, eq-eqb, arith}
-use Rattle.std.proofs.lemmas.Int.{ints, by_lt_z}
+use Rattle.std.proofs.Common.{◌≡◌, ◌≢◌, ℕ, ◌+◌, ◌*◌, ◌<◌, ◌==◌, ℤ, pos, ◌+ℤ◌, ◌-ℤ◌, ◌≤ℤ◌, Bool, false, ◌||◌, if◌then◌else◌, IsTrue, Option, Some, None, List, length, refl, sym, ap, ◌∙◌, subst, ⊎_elim, eq-eqb, arith}
+use Rattle.std.proofs.lemmas.Int.{ints}
 use Rattle.std.proofs.lemmas.Bool.{cases_eq, ne_eqb, false≢true}
 use Rattle.std.proofs.lemmas.List.{get_or-set_same, get_or-set_other}
 use Rattle.theory.specs.declared.ext.Ext.{Ext}
@@ -17,8 +17,7 @@ use Rattle.painted_search.specs.Path.{label_at}
 use Rattle.kilter_solver.specs.Along.{list_at, rise, IsPairAlong, moved, IsFinitePrice, IsNoPrice}
 use Rattle.kilter_solver.specs.Excess.{excess}
 use Rattle.kilter_solver.specs.Ready.{AreOnCurves, Ready}
-use Rattle.kilter_solver.specs.Marks.{count_of}
-use Rattle.kilter_solver.specs.Spread.{key, level, is_label, is_near, IsTried, IsWay, WayTo, Spread, IsSameState, IsLater, relaxed, IsImproved, kept, lowered}
+use Rattle.kilter_solver.specs.Spread.{key, level, is_label, is_near, IsTried, WayTo, Spread, IsLater, relaxed, IsImproved, kept, lowered}
 use Rattle.kilter_solver.proofs.Spreading.{near-done, near-label, pair_along, begin_below, end_below}
 
 -- ---- what was tried stays tried

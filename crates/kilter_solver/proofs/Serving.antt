@@ -1,18 +1,17 @@
 -- A unit that is sent. The source has one less to give and the target lacks one less, so the surpluses together fall by one: the
 -- target has none before and after. Excesses stay what the flow makes of them, since the divergence moved in the same way.
-use Rattle.std.proofs.Common.{◌≡◌, ◌≢◌, ◌⊎◌, inl, inr, ℕ, zero, suc, ◌+◌, ◌*◌, ◌^◌, ◌<◌, ◌≤◌, ◌==◌, ℤ, pos, negsuc, ◌+ℤ◌, ◌-ℤ◌, neg_ℤ, ◌≤ℤ◌, ◌<ℤ◌, Bool, true, false, IsTrue, List, length, refl, sym, ap, ◌∙◌, subst, ⊎_elim, eq-eqb, arith}
-use Rattle.std.proofs.lemmas.Int.{ints, by_lt_z}
+use Rattle.std.proofs.Common.{◌≡◌, ◌≢◌, ◌⊎◌, inl, inr, ℕ, zero, suc, ◌+◌, ◌^◌, ◌<◌, ◌≤◌, ℤ, pos, negsuc, ◌+ℤ◌, ◌-ℤ◌, neg_ℤ, ◌≤ℤ◌, ◌<ℤ◌, List, refl, sym, ap, ◌∙◌, subst, ⊎_elim, eq-eqb, arith}
+use Rattle.std.proofs.lemmas.Int.{ints}
 use Rattle.std.proofs.lemmas.Bool.{cases_eq, ne_eqb}
 use Rattle.std.proofs.lemmas.List.{get_or-set_same, get_or-set_other}
 use Rattle.theory.specs.declared.ext.Ext.{Ext}
-use Rattle.theory.specs.Sums.{counted}
 use Rattle.theory.specs.Limits.{IsWithin}
 use Rattle.theory.specs.Network.{«at»}
 use Rattle.theory.specs.Conserved.{divergence}
 use Rattle.net_incidence.specs.Graph.{Graph, bare}
 use Rattle.painted_search.specs.Room.{Room, most_count, with_scratch}
 use Rattle.painted_search.proofs.Counting.{total_below-same}
-use Rattle.kilter_solver.specs.Excess.{excess, AreExcesses, positive_part, surpluses}
+use Rattle.kilter_solver.specs.Excess.{excess, positive_part, surpluses}
 use Rattle.kilter_solver.specs.Ready.{AreOnCurves, Ready}
 use Rattle.kilter_solver.specs.Spread.{key, IsFound, IsSameState}
 use Rattle.kilter_solver.specs.Routing.{one_at, IsFallenBelow, IsPushed, IsBalancing, IsNotFar, IsSent, Routes, IsSafe, fall_most}
@@ -212,6 +211,16 @@ served g lists source target v p q w left lack balancing found on_curves there s
     far_same : (i : ℕ) → «at» w.potentials i ≡ «at» p.potentials i → IsNotFar g v p i → IsNotFar g v w i
     far_same i e far = far_for i e far.far
 
+-- what the target lacks is still lacking once the source has given
+pub still-lacks : (v p q w : Room) (source target : ℕ) (left bound : ℤ) → excess v target <ℤ pos 0 → pos 0 <ℤ excess v source
+    → IsFallenBelow v.nodes bound v p → q.scratch ≡ p.scratch → w ≡ with_scratch q source left → excess w target <ℤ pos 0
+still-lacks v p q w source target left bound lacks surplus fall same is =
+    let apart : target ≢ source = (λ e. let f : excess v target ≡ excess v source = ap (excess v) e in omega (arith, ints)) in
+    let written = ap (λ (r : Room). excess r target) is in
+    let other = get_or-set_other q.scratch source target left (pos 0) apart in
+    let before : excess q target ≡ excess v target = ap (λ (xs : List ℤ). «at» xs target) (same ∙ fall.same.scratch) in
+    omega (arith, ints)
+
 -- ---- one after the other
 
 pub routes-none : (g : Graph) (v : Room) → Routes g v v
@@ -327,3 +336,29 @@ ready-on_way g lists v w safe routes balancing few = record {
         → neg_ℤ (pos (2 ^ 59)) ≤ℤ «at» w.potentials i
     low_for i (inl same) = let m = safe.potentials i in let low = m.0 in omega (arith, ints)
     low_for i (inr (t, l, h, near)) = let m = safe.potentials t in let low = m.0 in omega (arith, ints)
+
+pub sent-before : (g : Graph) (u v w : Room) → IsSameState u v → u.nodes ≡ g.nodes → IsSent g v w → IsSent g u w
+sent-before g u v w same nodes sent =
+    let x : (j : ℕ) → «at» v.flows j ≡ «at» u.flows j = (λ j. ap (λ (xs : List ℤ). «at» xs j) same.flows) in
+    let p : (i : ℕ) → «at» v.potentials i ≡ «at» u.potentials i = (λ i. ap (λ (xs : List ℤ). «at» xs i) same.potentials) in
+    let e : (i : ℕ) → i < g.nodes → excess v i ≡ excess u i = (λ i l. same.excesses i (omega (arith, nodes))) in
+    let total : surpluses g.nodes (excess v) ≡ surpluses g.nodes (excess u) =
+    total_below-same g.nodes (λ i. positive_part (excess v i)) (λ i. positive_part (excess u i)) (λ i l. ap positive_part (e i l)) in
+    record {
+      fewer = sent.fewer ∙ total;
+      moves = λ j. subst (λ (z : ℤ). IsWithin 1 («at» w.flows j -ℤ z)) (x j) (sent.moves j);
+      falls = λ i. (let m = sent.falls i in let s = p i in omega (arith, ints));
+      lacked = λ i l h. (let m = sent.lacked i l h in let s = e i l in omega (arith, ints));
+      lacking = λ i l h. sent.lacking i l h ∙ p i;
+      near = λ i. far_for i (sent.near i).far;
+      sated = λ i l h. sent.sated i l (let s = e i l in omega (arith, ints));
+    }
+  where
+    far_for : (i : ℕ) → («at» w.potentials i ≡ «at» v.potentials i)
+        ⊎ ((t : ℕ) × (t < g.nodes) × (excess v t <ℤ pos 0) × («at» v.potentials t ≤ℤ («at» w.potentials i +ℤ pos (fall_most g))))
+        → IsNotFar g u w i
+    far_for i (inl still) = record { far = inl (still ∙ ap (λ (xs : List ℤ). «at» xs i) same.potentials) }
+    far_for i (inr (t, l, h, low)) =
+        let s = same.excesses t (omega (arith, nodes)) in
+        let m : «at» v.potentials t ≡ «at» u.potentials t = ap (λ (xs : List ℤ). «at» xs t) same.potentials in
+        record { far = inr (t, l, (omega (arith, ints)), (omega (arith, ints))) }

@@ -1,23 +1,20 @@
 -- How a search settles nodes. Each is settled once, so the steps that are tried at all of them are at most two for each arc.
-use Rattle.std.proofs.Common.{◌≡◌, ◌≢◌, ℕ, suc, ◌+◌, ◌*◌, ◌<◌, ◌≤◌, ℤ, pos, ◌≤ℤ◌, ◌<ℤ◌, Bool, true, false, IsTrue, Option, Some, None, List, length, set, refl, sym, ap, ◌∙◌, subst, ⊎_elim, add-one, arith, below_more}
+use Rattle.std.proofs.Common.{◌≡◌, ℕ, ◌+◌, ◌*◌, ◌<◌, ◌≤◌, pos, ◌≤ℤ◌, Bool, true, false, IsTrue, Option, Some, None, List, length, set, refl, sym, ap, ◌∙◌, subst, ⊎_elim, arith}
 use Rattle.std.proofs.lemmas.Int.{ints}
 use Rattle.std.proofs.lemmas.Bool.{cases_eq}
 use Rattle.std.proofs.lemmas.List.{get_or-set_other}
 use Rattle.std.proofs.Math.Nat.{mul-le-mul_left}
 use Rattle.theory.specs.declared.ext.Ext.{Ext}
 use Rattle.theory.specs.declared.network.NodeId.{NodeId}
-use Rattle.theory.specs.declared.network.Step.{Step}
-use Rattle.theory.specs.Network.{«at»}
 use Rattle.theory.specs.Cut.{holds}
 use Rattle.net_incidence.specs.Graph.{Graph}
 use Rattle.net_incidence.specs.Incidence.{incident_steps}
 use Rattle.painted_search.specs.Room.{Room, with_mark}
-use Rattle.painted_search.proofs.Counting.{total_below}
 use Rattle.painted_search.proofs.Degrees.{degrees}
 use Rattle.kilter_solver.specs.Excess.{excess}
-use Rattle.kilter_solver.specs.Marks.{count_of, marked_total}
+use Rattle.kilter_solver.specs.Marks.{marked_total}
 use Rattle.kilter_solver.specs.Ready.{Ready}
-use Rattle.kilter_solver.specs.Spread.{Spread, IsNearestBelow, IsBestBelow, IsNearestOf, IsSameState, IsLater}
+use Rattle.kilter_solver.specs.Spread.{Spread, IsBestBelow, IsNearestOf, IsSameState, IsLater}
 use Rattle.kilter_solver.proofs.Marking.{holds-set_other, marked_total-set, marked_total-most}
 use Rattle.kilter_solver.proofs.Spreading.{near-done, near-below, started, started-alone, ready-same}
 

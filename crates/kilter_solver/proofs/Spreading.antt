@@ -2,17 +2,16 @@
 -- node that isn't settled, or meets it, so settled nodes and the ways over them stay, and what was tried stays tried: there
 -- the level at a step's end can only have come down, or the end was unmet and every tension was on the curve. To settle the
 -- nearest node changes no key. Where all steps at the opened node were tried, none is left open.
-use Rattle.std.proofs.Common.{◌≡◌, ◌≢◌, ℕ, zero, suc, ◌+◌, ◌*◌, ◌<◌, ◌≤◌, ◌==◌, ℤ, pos, ◌+ℤ◌, ◌-ℤ◌, ◌≤ℤ◌, Bool, true, false, ◌||◌, if◌then◌else◌, IsTrue, Option, Some, None, List, [], ◌∷◌, length, get_or, set, replicate, ◌⊎◌, inl, inr, refl, sym, ap, ◌∙◌, subst, ⊎_elim, eq-eqb, arith, below_more}
+use Rattle.std.proofs.Common.{◌≡◌, ◌≢◌, ℕ, zero, suc, ◌+◌, ◌<◌, ◌≤◌, ℤ, pos, ◌-ℤ◌, Bool, true, false, ◌||◌, if◌then◌else◌, IsTrue, Some, None, List, length, get_or, replicate, ◌⊎◌, inl, inr, refl, sym, ap, ◌∙◌, subst, ⊎_elim, arith}
 use Rattle.std.proofs.lemmas.Int.{ints}
 use Rattle.std.proofs.Math.Nat.{mul-le-mul_left}
-use Rattle.std.proofs.lemmas.Bool.{cases_lt, cases_eq, ne_eqb, false≢true}
-use Rattle.std.proofs.lemmas.List.{get_or-set_same, get_or-set_other, get_or_past, length-replicate}
+use Rattle.std.proofs.lemmas.Bool.{cases_lt, cases_eq, false≢true}
+use Rattle.std.proofs.lemmas.List.{get_or-set_same, get_or_past, length-replicate}
 use Rattle.theory.specs.declared.ext.Ext.{Ext}
 use Rattle.theory.specs.declared.network.Step.{Step}
 use Rattle.theory.specs.Limits.{IsWithin, number_most}
 use Rattle.theory.specs.Network.{«at», tail, head}
 use Rattle.theory.specs.OnCurve.{IsOnCurve}
-use Rattle.theory.specs.Conserved.{tension}
 use Rattle.theory.specs.Cut.{holds}
 use Rattle.theory.specs.Circuit.{step, begin_of, end_of}
 use Rattle.net_incidence.specs.Graph.{Graph, bare}
@@ -20,11 +19,9 @@ use Rattle.net_incidence.specs.Incidence.{incident_steps}
 use Rattle.painted_search.specs.Room.{Room, most_count, with_scratch, with_mark, begun}
 use Rattle.painted_search.specs.Path.{label_at}
 use Rattle.painted_search.proofs.Degrees.{incident-stands}
-use Rattle.kilter_solver.specs.Along.{list_at, rise, directed, IsPairAlong, moved, IsPrice, IsFinitePrice, IsNoPrice}
-use Rattle.kilter_solver.specs.Excess.{excess}
+use Rattle.kilter_solver.specs.Along.{list_at, rise, directed, IsPairAlong}
 use Rattle.kilter_solver.specs.Ready.{AreOnCurves, IsReady, Ready}
-use Rattle.kilter_solver.specs.Marks.{count_of}
-use Rattle.kilter_solver.specs.Spread.{key, level, is_label, is_near, IsTried, IsWay, WayTo, Spread, IsSameState, IsLater, relaxed, IsNearest, key_most}
+use Rattle.kilter_solver.specs.Spread.{key, level, is_label, is_near, IsTried, WayTo, Spread, IsSameState, IsNearest, key_most}
 use Rattle.kilter_solver.proofs.Marking.{holds-set_same, holds-set_other, marked_total-set, count-some, count-most}
 
 -- ---- nodes that were met

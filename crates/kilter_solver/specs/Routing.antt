@@ -1,6 +1,6 @@
 -- Routes: how flow goes from a node with a surplus to one that lacks something. First the potentials fall so that each label is
 -- tight, which means that one unit more in its direction stays on the curve; then one unit moves along the labels.
-use Rattle.std.specs.Prelude.{◌≡◌, ◌≢◌, ◌⊎◌, ℕ, ◌+◌, ◌*◌, ◌^◌, ◌<◌, ◌≤◌, ◌==◌, ℤ, pos, neg_ℤ, ◌+ℤ◌, ◌-ℤ◌, ◌≤ℤ◌, ◌<ℤ◌, Bool, true, false, IsTrue, Option, Some, List, length}
+use Rattle.std.specs.Prelude.{◌≡◌, ◌≢◌, ◌⊎◌, ℕ, ◌+◌, ◌*◌, ◌^◌, ◌<◌, ◌≤◌, ◌==◌, ℤ, pos, ◌+ℤ◌, ◌-ℤ◌, ◌≤ℤ◌, ◌<ℤ◌, Bool, true, false, IsTrue, Some, List, length}
 use Rattle.theory.specs.declared.ext.Ext.{Ext}
 use Rattle.theory.specs.declared.network.Step.{Step}
 use Rattle.theory.specs.Sums.{counted}
@@ -12,11 +12,10 @@ use Rattle.theory.specs.Circuit.{begin_of, end_of}
 use Rattle.net_incidence.specs.Graph.{Graph, bare}
 use Rattle.painted_search.specs.Room.{Room}
 use Rattle.painted_search.specs.Path.{label_at}
-use Rattle.painted_search.specs.Fits.{Fits}
 use Rattle.kilter_solver.specs.Along.{list_at, rise, IsPairAlong, moved}
 use Rattle.kilter_solver.specs.Excess.{excess, AreExcesses, surpluses}
-use Rattle.kilter_solver.specs.Ready.{AreOnCurves, Ready}
-use Rattle.kilter_solver.specs.Spread.{key, level}
+use Rattle.kilter_solver.specs.Ready.{AreOnCurves}
+use Rattle.kilter_solver.specs.Spread.{key}
 
 -- ---- potentials fall
 

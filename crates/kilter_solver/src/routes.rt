@@ -1,10 +1,10 @@
 // Routes from every surplus to what other nodes lack, until no surplus is left or a negative cut shows that none can go.
-ghost use Rattle.std.specs.Prelude.{◌≡◌, ℕ, ◌+◌, ◌*◌, ◌<◌, ◌≤◌, pos, ◌<ℤ◌, IsTrue, length};
+ghost use Rattle.std.specs.Prelude.{◌≡◌, ℕ, ◌+◌, ◌*◌, ◌<◌, ◌≤◌, pos, ◌+ℤ◌, ◌-ℤ◌, ◌<ℤ◌, IsTrue, length};
 ghost use Rattle.theory.specs.Limits.{IsWithin, arg_most};
 ghost use Rattle.theory.specs.Network.{«at»};
 ghost use Rattle.theory.specs.Conserved.{IsConserved};
 ghost use Rattle.theory.specs.Cut.{IsNegativeCut, holds};
-ghost use Rattle.painted_search.specs.Room.{with_flow, with_potential};
+ghost use Rattle.painted_search.specs.Room.{with_flow, with_potential, with_scratch};
 ghost use Rattle.painted_search.specs.Unpriced.{unpriced};
 ghost use Rattle.kilter_solver.specs.Along.{moved};
 ghost use Rattle.kilter_solver.specs.Excess.{excess, surpluses};
@@ -30,7 +30,12 @@ pub enum Routed {
 }
 
 /// Sends every surplus, one unit after the other, each over a cheapest route. It takes no memory.
-pub fn route<B: Bundle, L: Ledger>(net: &Net, bundle: &B, work: &mut Work, steps: &mut Steps<L>) -> Routed
+pub fn route<B: Bundle, L: Ledger>(
+    net: &Net,
+    bundle: &B,
+    work: &mut Work,
+    steps: &mut Steps<L>,
+) -> Routed
     requires balancing { IsBalancing net.now (B.lists bundle.now) work.old }
     requires safe { IsSafe net.now work.old }
     ensures balancing { IsBalancing net.now (B.lists bundle.now) work.new }
@@ -41,14 +46,17 @@ pub fn route<B: Bundle, L: Ledger>(net: &Net, bundle: &B, work: &mut Work, steps
     ensures count { steps.new ≤ steps.old
         + 2 * length net.now.arcs * B.weight bundle.now * (surpluses net.now.nodes (excess work.old) + 1) }
 {
-    let routing = Routing { net, bundle };
     let mut i = 0;
     while i < net.nodes() {
         let node = NodeId(i as u32);
         if excess(work, node) <= 0 {
             i += 1;
-        } else if let Routed::Cut = routing.send(node, work, steps) {
-            return Routed::Cut;
+            continue;
+        }
+        let routing = Routing { net, bundle };
+        match routing.send(node, work, steps) {
+            Routed::Cut => return Routed::Cut,
+            Routed::Done => {}
         }
     }
     Routed::Done
@@ -89,10 +97,8 @@ impl<B: Bundle> Routing<'_, B> {
     {
         lower(work, target);
         self.push(source, target, work);
-        let left = excess(work, source) - 1;
-        set_excess(work, source, left);
-        let lack = excess(work, target) + 1;
-        set_excess(work, target, lack);
+        give_one(work, source);
+        take_one(work, target);
     }
 
     /// Moves one unit along the labels, from the target back to the source.
@@ -143,7 +149,10 @@ fn lower_one(work: &mut Work, node: NodeId, bound: i64)
     ensures { work.new ≡ with_potential work.old node.0 (fallen_at work.old bound node.0) }
 {
     let potential = work.potential(node);
-    work.set_potential(node, fallen(work.reached(node), potential, key(work, node), bound));
+    work.set_potential(
+        node,
+        fallen(work.reached(node), potential, key(work, node), bound),
+    );
 }
 
 fn fallen(settled: bool, potential: i64, key: i64, bound: i64) -> i64
@@ -174,4 +183,22 @@ fn moved(forward: bool, flow: i64) -> i64
     ensures { result ≡ moved forward flow }
 {
     if forward { flow + 1 } else { flow - 1 }
+}
+
+fn give_one(work: &mut Work, node: NodeId)
+    requires there { node.0 < work.old.nodes }
+    requires surplus { pos 0 <ℤ excess work.old node.0 }
+    ensures { work.new ≡ with_scratch work.old node.0 (excess work.old node.0 -ℤ pos 1) }
+{
+    let amount = excess(work, node);
+    set_excess(work, node, amount - 1);
+}
+
+fn take_one(work: &mut Work, node: NodeId)
+    requires there { node.0 < work.old.nodes }
+    requires lacks { excess work.old node.0 <ℤ pos 0 }
+    ensures { work.new ≡ with_scratch work.old node.0 (excess work.old node.0 +ℤ pos 1) }
+{
+    let amount = excess(work, node);
+    set_excess(work, node, amount + 1);
 }

@@ -97,7 +97,12 @@ impl<B: Bundle> Routing<'_, B> {
     }
 
     /// Settles nodes, the nearest first, until the nearest one lacks something; gives that one.
-    pub(crate) fn spread<L: Ledger>(&self, source: NodeId, work: &mut Work, steps: &mut Steps<L>) -> Option<NodeId>
+    pub(crate) fn spread<L: Ledger>(
+        &self,
+        source: NodeId,
+        work: &mut Work,
+        steps: &mut Steps<L>,
+    ) -> Option<NodeId>
         requires ready { Ready self.now.net.now (B.lists self.now.bundle.now) work.old }
         requires there { source.0 < self.now.net.now.nodes }
         requires surplus { pos 0 ≤ℤ excess work.old source.0 }

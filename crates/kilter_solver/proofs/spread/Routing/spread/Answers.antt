@@ -1,13 +1,13 @@
-use Rattle.std.proofs.Common.{◌≡◌, ◌+◌, ◌*◌, ◌<◌, ◌≤◌, ℤ, pos, ◌≤ℤ◌, Bool, true, List, length, set, sym, ap, ◌∙◌, subst, IsTrue, arith}
+use Rattle.std.proofs.Common.{◌≡◌, ◌+◌, pos, ◌≤ℤ◌, true, set, sym, ap, ◌∙◌, subst, IsTrue, arith}
 use Rattle.std.proofs.lemmas.Int.{ints}
 use Rattle.std.proofs.Math.Nat.{mul-le-mul_left}
 use Rattle.theory.specs.Cut.{holds}
-use Rattle.painted_search.specs.Room.{Room, with_scratch, with_mark}
+use Rattle.painted_search.specs.Room.{Room, with_scratch}
 use Rattle.kilter_solver.specs.Excess.{excess}
-use Rattle.kilter_solver.specs.Marks.{count_of, marked_total}
-use Rattle.kilter_solver.specs.Spread.{Spread, IsSameState}
+use Rattle.kilter_solver.specs.Marks.{count_of}
+use Rattle.kilter_solver.specs.Spread.{Spread}
 use Rattle.kilter_solver.proofs.Marking.{marked_total-set, marked_total-term, count-most}
-use Rattle.kilter_solver.proofs.Spreading.{started, started-root, spread-started, spread-settled}
+use Rattle.kilter_solver.proofs.Spreading.{started, spread-started, spread-settled}
 use Rattle.kilter_solver.proofs.Settling.{degree, spent-more, spent-most, IsSettling, settling-begun, settling-more}
 use Rattle.kilter_solver.proofs.spread.Routing.spread.Goals as goal
 

@@ -6,7 +6,7 @@ use Rattle.theory.specs.Circuit.{begin_of, end_of}
 use Rattle.net_incidence.specs.Graph.{bare}
 use Rattle.kilter_solver.specs.Spread.{level, IsImproved}
 use Rattle.kilter_solver.proofs.Spreading.{near-done, begin_below, key-within}
-use Rattle.kilter_solver.proofs.Relaxing.{tried-settled, tried-barred, StepTried, step-tried}
+use Rattle.kilter_solver.proofs.Relaxing.{tried-settled, tried-barred, step-tried}
 use Rattle.kilter_solver.proofs.spread.Routing.try_step.Goals as goal
 
 pub returns-then-reached-clause-tried : goal.returns-then-reached-clause-tried

@@ -1,7 +1,6 @@
-use Rattle.std.proofs.Common.{◌≡◌, ℕ, ◌+◌, ◌*◌, ◌<◌, ◌≤◌, IsTrue, length, sym, subst, below_more, arith}
+use Rattle.std.proofs.Common.{◌≡◌, ℕ, ◌<◌, IsTrue, length, sym, subst, below_more, arith}
 use Rattle.theory.specs.Cut.{holds}
-use Rattle.theory.specs.Circuit.{step, begin_of}
-use Rattle.net_incidence.specs.Graph.{bare}
+use Rattle.theory.specs.Circuit.{step}
 use Rattle.kilter_solver.specs.Spread.{Spread}
 use Rattle.kilter_solver.proofs.Spreading.{ready-same, spread-closed}
 use Rattle.kilter_solver.proofs.Relaxing.{later-further, tried-later}
