@@ -13,3 +13,5 @@ pub mod Lowering
 pub mod Pushing
 pub mod Cutting
 pub mod Serving
+-- The beginning:
+pub mod Clamps

@@ -6,5 +6,7 @@ pub mod Marks
 -- The search for a cheapest route:
 pub mod Spread
 pub mod Routing
+-- The beginning: flows on their curves
+pub mod Clamping
 -- Curves by the arc:
 pub mod BundleFacts

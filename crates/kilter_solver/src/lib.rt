@@ -2,6 +2,7 @@
 #![tactic(auto)]
 
 mod bundle;
+mod clamp;
 mod routes;
 mod spread;
 mod words;
