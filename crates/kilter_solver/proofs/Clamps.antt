@@ -1,6 +1,6 @@
 -- How a flow is clamped. One arc's flow moves by d, and with it the excess at its tail by -d and at its head by d, so the excesses
 -- stay what the flow makes of them, and the surpluses grow by no more than d without its sign: of the two nodes only one gets more.
-use Rattle.std.proofs.Common.{◌≡◌, ◌≢◌, ℕ, zero, suc, ◌+◌, ◌*◌, ◌^◌, ◌<◌, ◌≤◌, ◌==◌, ℤ, pos, negsuc, ◌+ℤ◌, ◌-ℤ◌, neg_ℤ, ◌≤ℤ◌, ◌<ℤ◌, Bool, true, false, List, length, set, refl, sym, ap, ◌∙◌, subst, ⊎_elim, eq-eqb, add-one, arith}
+use Rattle.std.proofs.Common.{◌≡◌, ◌≢◌, ℕ, zero, suc, ◌+◌, ◌*◌, ◌^◌, ◌<◌, ◌≤◌, ◌==◌, ℤ, pos, negsuc, ◌+ℤ◌, ◌-ℤ◌, neg_ℤ, ◌≤ℤ◌, Bool, true, false, List, length, set, refl, sym, ap, ◌∙◌, subst, ⊎_elim, eq-eqb, add-one, arith}
 use Rattle.std.specs.Prelude.{unsigned_abs}
 use Rattle.std.proofs.lemmas.Int.{ints}
 use Rattle.std.proofs.lemmas.Bool.{cases_eq, cases_lt, ne_eqb}
@@ -9,16 +9,15 @@ use Rattle.theory.specs.declared.ext.Ext.{Ext}
 use Rattle.theory.specs.Sums.{counted}
 use Rattle.theory.specs.Limits.{IsWithin}
 use Rattle.theory.specs.Readings.{IsRange}
-use Rattle.theory.specs.OnCurve.{IsOnCurve}
 use Rattle.theory.specs.Network.{«at», tail, head}
-use Rattle.theory.specs.Conserved.{divergence, tension}
+use Rattle.theory.specs.Conserved.{tension}
 use Rattle.net_incidence.specs.Graph.{Graph, bare}
 use Rattle.painted_search.specs.Room.{Room, with_flow, with_scratch}
-use Rattle.painted_search.proofs.Counting.{total_below, total_below-same}
+use Rattle.painted_search.proofs.Counting.{total_below-same}
 use Rattle.kilter_solver.specs.Along.{list_at}
 use Rattle.kilter_solver.specs.Excess.{excess, AreExcesses, positive_part, surpluses}
 use Rattle.kilter_solver.specs.Ready.{reach_most}
-use Rattle.kilter_solver.specs.Clamping.{word_most, HasNear, IsClosest, HasPairNear, IsClosestFlow, shift_most, IsLoose, shifts, IsSameButBalance, IsClampedBelow, IsClampable, IsShifted, IsClampedOne}
+use Rattle.kilter_solver.specs.Clamping.{word_most, HasNear, IsClosest, HasPairNear, IsClosestFlow, shift_most, IsLoose, shifts, IsClampedBelow, IsClampable, IsShifted, IsClampedOne}
 use Rattle.kilter_solver.proofs.Marking.{total_below-change}
 use Rattle.kilter_solver.proofs.Pushing.{divergence-changed}
 
@@ -98,13 +97,6 @@ shifted g j x d v p q w there nodes arcs p_is x_is q_is w_is =
           let b = second i in
           let c = start i in
           let n = counted-negated (from == i) d in
-          omega (arith, ints));
-      words = λ i l. (
-          let a = first i in
-          let b = second i in
-          let c = start i in
-          let off_from = counted-off from i (neg_ℤ d) (λ e. omega arith) in
-          let off_to = counted-off to i d (λ e. omega arith) in
           omega (arith, ints));
     }
 
@@ -214,17 +206,15 @@ counted-within false n d within = (omega (arith, ints), omega (arith, ints))
 
 -- an arc has two ends, so each excess grows by at most the shift
 pub small-shifted : (g : Graph) (j : ℕ) (d : ℤ) (v w : Room) (most : ℕ) → j < length g.arcs → IsShifted g j d v w → IsWithin shift_most d
-    → ((i : ℕ) → IsWithin most (excess v i)) → (i : ℕ) → IsWithin (most + shift_most) (excess w i)
-small-shifted g j d v w most there shift small before i =
-    let old = before i in
+    → ((i : ℕ) → i < g.nodes → IsWithin most (excess v i)) → (i : ℕ) → i < g.nodes → IsWithin (most + shift_most) (excess w i)
+small-shifted g j d v w most there shift small before i below =
+    let old = before i below in
     let low = old.0 in
     let high = old.1 in
     let d_low = small.0 in
     let d_high = small.1 in
     let from = tail (bare g) j in
     let to = head (bare g) j in
-    ⊎_elim
-    (λ (below : i < g.nodes).
     let e = shift.excesses i below in
     ⊎_elim
     (λ (at_from : i ≡ from).
@@ -237,9 +227,7 @@ small-shifted g j d v w most there shift small before i =
     let w_low = within.0 in
     let w_high = within.1 in
     within_two (omega (arith, ints)) (omega (arith, ints)))
-    (cases_eq i from))
-    (λ (above : g.nodes ≤ i). let e = shift.words i above in within_two (omega (arith, ints)) (omega (arith, ints)))
-    (cases_lt i g.nodes)
+    (cases_eq i from)
   where
     within_two : neg_ℤ (pos (most + shift_most)) ≤ℤ excess w i → excess w i ≤ℤ pos (most + shift_most) → IsWithin (most + shift_most) (excess w i)
     within_two low high = (low, high)
@@ -250,7 +238,7 @@ pub clamped-begun : (g : Graph) (lists : List (List Ext)) (v : Room) → IsLoose
 clamped-begun g lists v loose = record {
   same = record { nodes = refl; arcs = refl; potentials = refl };
   excesses = loose.excesses;
-  small = λ i. (let s = loose.small i in let low = s.0 in let high = s.1 in (omega (arith, ints), omega (arith, ints)));
+  small = λ i l. (let s = loose.small i l in let low = s.0 in let high = s.1 in (omega (arith, ints), omega (arith, ints)));
   closest = λ j l. absurd (omega arith);
   stays = λ j l. refl;
   surplus = omega arith;
@@ -283,8 +271,8 @@ clamped-more g lists v w r n before there one =
         potentials = shift.same.potentials ∙ before.same.potentials;
       };
       excesses = excesses-shifted g n one.shift w r there shift before.excesses;
-      small = λ i. (
-          let s = small-shifted g n one.shift w r (2 ^ 60 + n * shift_most) there shift one.small before.small i in
+      small = λ i l. (
+          let s = small-shifted g n one.shift w r (2 ^ 60 + n * shift_most) there shift one.small before.small i l in
           let low = s.0 in
           let high = s.1 in
           (omega (arith, ints), omega (arith, ints)));
@@ -312,7 +300,7 @@ clampable g lists v w n loose before there few =
       same_nodes = before.same.nodes ∙ loose.same_nodes;
       same_arcs = before.same.arcs ∙ loose.same_arcs;
       one_list_each = loose.one_list_each;
-      small = λ i. (let s = before.small i in let low = s.0 in let high = s.1 in (omega (arith, ints), omega (arith, ints)));
+      small = λ i l. (let s = before.small i l in let low = s.0 in let high = s.1 in (omega (arith, ints), omega (arith, ints)));
       flow = subst (λ (x : ℤ). IsWithin (2 ^ 61) x) (sym stays) (loose.flows n);
       potentials = λ i. subst (λ (u : List ℤ). IsWithin reach_most («at» u i)) (sym before.same.potentials) (loose.potentials i);
       near = subst (λ (u : List ℤ). HasPairNear shift_most (list_at lists n) («at» w.flows n) (tension (bare g) («at» u) n)) (sym before.same.potentials)

@@ -15,3 +15,4 @@ pub mod Cutting
 pub mod Serving
 -- The beginning:
 pub mod Clamps
+pub mod InKilter

@@ -3,11 +3,10 @@
 -- node to one that was met it is no more than that, since the other key is at least the bound; to an unmet node every tension
 -- is on the curve. So each pair stays on its curve, by the steps that were tried. Along a label between settled nodes, or to
 -- the target, the tension is now the price.
-use Rattle.std.proofs.Common.{◌≡◌, ◌≢◌, inl, inr, ℕ, ◌+◌, ◌<◌, ◌≤◌, ℤ, pos, ◌+ℤ◌, ◌-ℤ◌, neg_ℤ, ◌≤ℤ◌, ◌<ℤ◌, Bool, true, false, IsTrue, List, set, refl, sym, ap, ◌∙◌, subst, ⊎_elim, arith}
+use Rattle.std.proofs.Common.{◌≡◌, inl, inr, ℕ, ◌<◌, ◌≤◌, ℤ, pos, ◌+ℤ◌, ◌-ℤ◌, neg_ℤ, ◌≤ℤ◌, ◌<ℤ◌, Bool, true, false, IsTrue, List, refl, sym, ap, ◌∙◌, subst, ⊎_elim, arith}
 use Rattle.std.proofs.lemmas.Int.{ints, by_lt_z}
 use Rattle.std.proofs.Math.Nat.{mul-le-mul_left}
-use Rattle.std.proofs.lemmas.Bool.{cases_eq, cases_lt, false≢true}
-use Rattle.std.proofs.lemmas.List.{get_or-set_same, get_or-set_other}
+use Rattle.std.proofs.lemmas.Bool.{cases_lt, false≢true}
 use Rattle.theory.specs.declared.ext.Ext.{Ext}
 use Rattle.theory.specs.Limits.{number_most}
 use Rattle.theory.specs.OnCurve.{IsOnCurve}
@@ -17,7 +16,7 @@ use Rattle.theory.specs.Cut.{holds}
 use Rattle.theory.specs.Circuit.{begin_of, end_of}
 use Rattle.net_incidence.specs.Graph.{Graph, bare}
 use Rattle.net_incidence.specs.Incidence.{over}
-use Rattle.painted_search.specs.Room.{Room, with_potential}
+use Rattle.painted_search.specs.Room.{Room}
 use Rattle.painted_search.specs.Path.{label_at}
 use Rattle.kilter_solver.specs.Along.{list_at, rise, IsPairAlong, moved}
 use Rattle.kilter_solver.specs.Excess.{excess}
@@ -26,45 +25,6 @@ use Rattle.kilter_solver.specs.Spread.{key, level, is_near, WayTo, IsFound}
 use Rattle.kilter_solver.specs.Routing.{fallen, fallen_at, IsFallenBelow, IsOn, TightTo, IsRoute, IsNotFar}
 use Rattle.kilter_solver.proofs.Marking.{count-most}
 use Rattle.kilter_solver.proofs.Spreading.{near-done, begin_below, end_below}
-
--- ---- node by node
-
-pub falling-begun : (bound : ℤ) (v : Room) → IsFallenBelow 0 bound v v
-falling-begun bound v = record {
-  same = record { nodes = refl; arcs = refl; flows = refl; reached = refl; labels = refl; scratch = refl };
-  fell = λ i l. absurd (omega arith);
-  stays = λ i l. refl;
-}
-
-pub falling-more : (v w w' : Room) (i : ℕ) (bound : ℤ) → IsFallenBelow i bound v w → i < w.nodes
-    → w' ≡ with_potential w i (fallen_at w bound i) → IsFallenBelow (i + 1) bound v w'
-falling-more v w w' i bound before there is =
-    let written : w'.potentials ≡ set w.potentials i (fallen_at w bound i) = ap (λ (r : Room). r.potentials) is in
-    let here : «at» w'.potentials i ≡ fallen_at w bound i =
-    ap (λ (u : List ℤ). «at» u i) written
-    ∙ get_or-set_same w.potentials i (fallen_at w bound i) (pos 0) (omega (arith, w.sized.one_potential_each)) in
-    let old : (k : ℕ) → k ≢ i → «at» w'.potentials k ≡ «at» w.potentials k =
-    (λ k other. ap (λ (u : List ℤ). «at» u k) written ∙ get_or-set_other w.potentials i k (fallen_at w bound i) (pos 0) other) in
-    let key_same : key w i ≡ key v i =
-    ap (λ (n : ℕ). «at» w.scratch (n + i)) before.same.nodes ∙ ap (λ (xs : List ℤ). «at» xs (v.nodes + i)) before.same.scratch in
-    let mark_same : holds w.reached i ≡ holds v.reached i = ap (λ (side : List Bool). holds side i) before.same.reached in
-    let stays = before.stays i (omega arith) in
-    let value : fallen_at w bound i ≡ fallen_at v bound i = rw (key_same, mark_same, stays) refl in
-    record {
-      same = record {
-        nodes = ap (λ (r : Room). r.nodes) is ∙ before.same.nodes;
-        arcs = ap (λ (r : Room). r.arcs) is ∙ before.same.arcs;
-        flows = ap (λ (r : Room). r.flows) is ∙ before.same.flows;
-        reached = ap (λ (r : Room). r.reached) is ∙ before.same.reached;
-        labels = ap (λ (r : Room). r.labels) is ∙ before.same.labels;
-        scratch = ap (λ (r : Room). r.scratch) is ∙ before.same.scratch;
-      };
-      fell = λ k l. ⊎_elim
-          (λ (same : k ≡ i). subst (λ (n : ℕ). «at» w'.potentials n ≡ fallen_at v bound n) (sym same) (here ∙ value))
-          (λ (other : k ≡ i → ⊥). old k other ∙ before.fell k (omega arith))
-          (cases_eq k i);
-      stays = λ k l. old k (λ same. omega arith) ∙ before.stays k (omega arith);
-    }
 
 -- ---- one arc
 

@@ -38,6 +38,7 @@ pub trait Bundle {
 }
 
 /// The curves of a slice as they are.
+#[derive(Drop)]
 pub struct Plain<'a, C> {
     pub curves: &'a [C],
 }

@@ -1,4 +1,4 @@
-use Rattle.std.proofs.Common.{◌+◌, ◌*◌, ◌<◌, ◌≤◌, length, arith}
+use Rattle.std.proofs.Common.{arith}
 use Rattle.kilter_solver.proofs.Clamps.{clamped-more}
 use Rattle.kilter_solver.proofs.spread.Routing.clamp.Goals as goal
 

@@ -1,10 +1,6 @@
-use Rattle.std.proofs.Common.{◌≡◌, ℤ, pos, ◌+ℤ◌, ◌-ℤ◌, sym, subst, to_z, of_z, to_z-of_z, w64, SFits, rules, arith}
-use Rattle.std.proofs.lemmas.Int.{ints}
+use Rattle.std.proofs.Common.{ℤ, ◌-ℤ◌, subst, to_z-of_z, w64, SFits, rules}
 use Rattle.theory.specs.Network.{«at»}
-use Rattle.theory.specs.Conserved.{tension}
-use Rattle.net_incidence.specs.Graph.{bare}
-use Rattle.kilter_solver.specs.Along.{list_at}
-use Rattle.kilter_solver.specs.Clamping.{IsClosestFlow, IsShifted, IsClampedOne, shift_most}
+use Rattle.kilter_solver.specs.Clamping.{IsShifted}
 use Rattle.kilter_solver.proofs.Clamps.{clamped-one}
 use Rattle.kilter_solver.proofs.spread.Routing.clamp_one.Goals as goal
 

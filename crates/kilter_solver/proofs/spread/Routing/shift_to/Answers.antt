@@ -17,7 +17,7 @@ add_excess-requires-2-clause-excess g c =
     let from_there = c.args.self.now.net.now.good.tails c.args.arc.0 c.requires.there in
     word-within c.set_flow.new.self c.add_excess.new.work c.from.result.0 to _
     (omega (arith, c.from.ensures, c.requires.ready.same_nodes)) c.add_excess.ensures (omega (arith, ints), omega (arith, ints))
-    (subst (λ (z : ℤ). IsWithin (2 ^ 61 + 2 ^ 60) z) (sym same) (c.requires.ready.small to))
+    (subst (λ (z : ℤ). IsWithin (2 ^ 61 + 2 ^ 60) z) (sym same) (c.requires.ready.small to (omega (arith, c.to.ensures, c.args.self.now.net.now.good.heads c.args.arc.0 c.requires.there))))
 
 pub returns : goal.returns
 returns g c =
