@@ -1,5 +1,5 @@
 -- A room is its counts and lists: of the facts that it carries there is only one proof.
-use Rattle.std.proofs.Common.{◌≡◌, ℕ, ℤ, Bool, Option, Some, None, List, refl, sym, ap, ◌∙◌, subst}
+use Rattle.std.proofs.Common.{◌≡◌, ℕ, ◌*◌, ℤ, Bool, Option, Some, None, List, length, take, drop, refl, sym, ap, ◌∙◌, subst}
 use Rattle.std.proofs.Props.{props}
 use Rattle.theory.specs.declared.network.Step.{Step}
 use Rattle.painted_search.specs.Room.{IsSized, Room}
@@ -12,6 +12,7 @@ pub record Lists : Type 0 where
   pub reached : List Bool
   pub labels : List (Option Step)
   pub walk : List Step
+  pub scratch : List ℤ
 
 abbrev pub lists : Room → Lists
 lists w = record {
@@ -22,10 +23,11 @@ lists w = record {
   reached = w.reached;
   labels = w.labels;
   walk = w.walk;
+  scratch = w.scratch;
 }
 
 abbrev AreSized : Lists → Type 0
-AreSized l = IsSized l.nodes l.arcs l.flows l.potentials l.reached l.labels l.walk
+AreSized l = IsSized l.nodes l.arcs l.flows l.potentials l.reached l.labels l.walk × (length l.scratch ≡ 2 * l.nodes)
 
 abbrev room : (l : Lists) → AreSized l → Room
 room l sized = record {
@@ -36,16 +38,20 @@ room l sized = record {
   reached = l.reached;
   labels = l.labels;
   walk = l.walk;
-  sized = sized;
+  scratch = l.scratch;
+  sized = sized.0;
+  two_words_each = sized.1;
 }
 
 pub room-same : (v w : Room) → lists v ≡ lists w → v ≡ w
 room-same v w same =
     let one_proof : (q : AreSized (lists w)) → room (lists w) q ≡ w =
-    (λ q. let one : IsProp (AreSized (lists w)) = hlevel props in ap (room (lists w)) (one q w.sized)) in
+    (λ q.
+    let one : IsProp (AreSized (lists w)) = hlevel props in
+    ap (room (lists w)) (one q (w.sized, w.two_words_each))) in
     let moved : (q : AreSized (lists v)) → room (lists v) q ≡ w =
     subst (λ (l : Lists). (q : AreSized l) → room l q ≡ w) (sym same) one_proof in
-    moved v.sized
+    moved (v.sized, v.two_words_each)
 
 abbrev pub with_walk : Room → List Step → Lists
 with_walk w walk = record (lists w) { walk = walk }
@@ -55,8 +61,8 @@ pub clones-none : (IsClone : Option Step → Type 0) → ((s : Step) → IsClone
 clones-none IsClone never None clone = refl
 clones-none IsClone never (Some s) clone = absurd (never s clone)
 
-abbrev pub with_front : Room → List ℤ → Lists
-with_front w potentials = record (lists w) { potentials = potentials }
+abbrev pub with_words : Room → ℕ → List ℤ → Lists
+with_words w n words = record (lists w) { potentials = take n words; scratch = drop n words }
 
 abbrev pub with_labels : Room → List (Option Step) → Lists
 with_labels w labels = record (lists w) { labels = labels }

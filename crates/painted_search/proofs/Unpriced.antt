@@ -1,19 +1,18 @@
 -- Which flows, potentials, cuts and circuits a network has depends on the items of its curves alone. So what is found for
 -- curves without bases holds with them.
-use Rattle.std.proofs.Common.{◌≡◌, ℕ, zero, suc, ◌<◌, ℤ, ◌+ℤ◌, List, [], ◌∷◌, Bool, map, length, refl, sym, ap, ap₂, subst, ◌∙◌}
+use Rattle.std.proofs.Common.{◌≡◌, ℕ, ℤ, ◌+ℤ◌, List, [], ◌∷◌, Bool, length, refl, ap, ap₂, subst}
 use Rattle.theory.specs.declared.ext.Ext.{Ext}
 use Rattle.theory.specs.declared.network.Step.{Step}
-use Rattle.theory.specs.Sums.{Each, sum_over}
-use Rattle.theory.specs.Ends.{IsFinite, whole, negated}
-use Rattle.theory.specs.CurveList.{Listing, first, last}
+use Rattle.theory.specs.Ends.{IsFinite, whole}
+use Rattle.theory.specs.CurveList.{Listing}
 use Rattle.theory.specs.Domain.{InDomain}
-use Rattle.theory.specs.Span.{InSpan, span_low, span_high}
+use Rattle.theory.specs.Span.{InSpan}
 use Rattle.theory.specs.OnCurve.{IsOnCurve}
 use Rattle.theory.specs.Network.{Network, «at», curve}
 use Rattle.theory.specs.Conserved.{tension}
 use Rattle.theory.specs.Feasible.{IsFeasibleFlow, IsFeasiblePotential}
-use Rattle.theory.specs.Cut.{cut_end, cut_sum, leaves, enters, IsNegativeCut}
-use Rattle.theory.specs.Circuit.{span_end, span_sum, SpanCounts, IsCircuit, IsNegativeCircuit}
+use Rattle.theory.specs.Cut.{cut_end, cut_sum, IsNegativeCut}
+use Rattle.theory.specs.Circuit.{span_end, span_sum, SpanCounts, IsNegativeCircuit}
 use Rattle.theory.specs.Certificate.{IsOptimalPair}
 use Rattle.theory.proofs.SumsBelow.{sum_below-same}
 use Rattle.net_incidence.specs.Graph.{Graph, network}

@@ -1,6 +1,7 @@
 -- Room: what the working room of a solve is seen as. A flow for each arc, a potential, a mark and a label for each node, a
--- walk, and the counts of nodes and arcs that it was taken for, with the proof that the lengths agree with these.
-use Rattle.std.specs.Prelude.{◌≡◌, ℕ, ◌≤◌, ◌^◌, ℤ, pos, Bool, false, Option, None, List, [], ◌++◌, length, take, drop, replicate}
+-- walk, two more numbers for each node for the caller's own use, and the counts of nodes and arcs that it was taken for, with
+-- the proof that the lengths agree with these.
+use Rattle.std.specs.Prelude.{◌≡◌, ℕ, ◌*◌, ◌≤◌, ◌^◌, ℤ, pos, Bool, false, Option, None, List, [], ◌++◌, length, take, drop, replicate}
 use Rattle.theory.specs.declared.network.Step.{Step}
 
 -- the greatest count of nodes, and of arcs
@@ -25,7 +26,9 @@ pub record Room : Type 0 where
   pub reached : List Bool
   pub labels : List (Option Step)
   pub walk : List Step
+  pub scratch : List ℤ
   pub sized : IsSized nodes arcs flows potentials reached labels walk
+  pub two_words_each : length scratch ≡ 2 * nodes
 
 -- the room as it is taken: all numbers 0, no node marked, no label, no step
 pub record IsEmpty (count_of_nodes count_of_arcs : ℕ) (w : Room) : Type 0 where
@@ -36,7 +39,8 @@ pub record IsEmpty (count_of_nodes count_of_arcs : ℕ) (w : Room) : Type 0 wher
   pub reached : w.reached ≡ replicate count_of_nodes false
   pub labels : w.labels ≡ replicate count_of_nodes None
   pub walk : w.walk ≡ []
+  pub scratch : w.scratch ≡ replicate (2 * count_of_nodes) (pos 0)
 
--- the first numbers of a list in the place of the old ones
-abbrev pub overwritten : List ℤ → ℕ → List ℤ → List ℤ
-overwritten old n new = take n (new ++ drop (length new) old)
+-- all words of the nodes, with the first of them written over: the potentials, then the scratch
+abbrev pub overwritten : Room → List ℤ → List ℤ
+overwritten w words = take (3 * w.nodes) (words ++ drop (length words) (w.potentials ++ w.scratch))

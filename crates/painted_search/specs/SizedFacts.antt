@@ -1,7 +1,7 @@
 -- Lengths as a room is written to: each write keeps them.
-use Rattle.std.specs.Prelude.{◌≡◌, ℕ, ◌<◌, ◌≤◌, ℤ, Bool, true, false, Option, Some, None, List, [], ◌∷◌, ◌++◌, length, replicate, reverse, slice_set}
-use Rattle.std.proofs.Common.{refl, sym, ◌∙◌, arith, length-append}
-use Rattle.std.proofs.lemmas.List.{length-set, length-replicate, length-reverse}
+use Rattle.std.specs.Prelude.{◌≡◌, ℕ, ◌*◌, ◌<◌, ◌≤◌, ℤ, Bool, true, false, Option, Some, None, List, [], ◌∷◌, ◌++◌, length, take, drop, replicate, reverse, slice_set}
+use Rattle.std.proofs.Common.{refl, sym, ◌∙◌, arith, length-append, length-drop}
+use Rattle.std.proofs.lemmas.List.{length-set, length-replicate, length-reverse, length-take-le}
 use Rattle.std.specs.List.{length_refill}
 use Rattle.theory.specs.declared.network.Step.{Step}
 use Rattle.painted_search.specs.Room.{IsSized, Room, overwritten}
@@ -28,10 +28,27 @@ sized-flow w j x = resized w.sized (length-set w.flows j x) refl refl refl w.siz
 pub sized-potential : (w : Room) (i : ℕ) (u : ℤ) → IsSized w.nodes w.arcs w.flows (slice_set w.potentials i u) w.reached w.labels w.walk
 sized-potential w i u = resized w.sized refl (length-set w.potentials i u) refl refl w.sized.short_walk
 
-pub sized-potentials : (w : Room) (u : List ℤ) → IsSized w.nodes w.arcs w.flows (overwritten w.potentials w.nodes u) w.reached w.labels w.walk
-sized-potentials w u =
-    let e = length_refill w.nodes w.potentials u (sym w.sized.one_potential_each) in
-    resized w.sized refl (sym e ∙ sym w.sized.one_potential_each) refl refl w.sized.short_walk
+pub length-words : (w : Room) (words : List ℤ) → length (overwritten w words) ≡ 3 * w.nodes
+length-words w words =
+    let all = length-append w.potentials w.scratch in
+    sym (length_refill (3 * w.nodes) (w.potentials ++ w.scratch) words (omega (arith, w.sized.one_potential_each, w.two_words_each)))
+    ∙ omega (arith, w.sized.one_potential_each, w.two_words_each)
+
+pub sized-potentials : (w : Room) (words : List ℤ)
+    → IsSized w.nodes w.arcs w.flows (take w.nodes (overwritten w words)) w.reached w.labels w.walk
+sized-potentials w words =
+    let all = length-words w words in
+    let front = length-take-le w.nodes (overwritten w words) (omega arith) in
+    resized w.sized refl (front ∙ sym w.sized.one_potential_each) refl refl w.sized.short_walk
+
+pub sized-scratch : (w : Room) (words : List ℤ) → length (drop w.nodes (overwritten w words)) ≡ 2 * w.nodes
+sized-scratch w words =
+    let all = length-words w words in
+    let rest = length-drop w.nodes (overwritten w words) in
+    omega arith
+
+pub sized-word : (w : Room) (k : ℕ) (z : ℤ) → length (slice_set w.scratch k z) ≡ 2 * w.nodes
+sized-word w k z = length-set w.scratch k z ∙ w.two_words_each
 
 pub sized-no_walk : (w : Room) → IsSized w.nodes w.arcs w.flows w.potentials w.reached w.labels []
 sized-no_walk w = resized w.sized refl refl refl refl (omega arith)
@@ -53,6 +70,9 @@ sized-label w i s =
 
 pub sized-turned : (w : Room) → IsSized w.nodes w.arcs w.flows w.potentials w.reached w.labels (reverse w.walk)
 sized-turned w = resized w.sized refl refl refl refl (let e = length-reverse w.walk in omega (arith, w.sized.short_walk))
+
+pub sized-marked : (w : Room) (i : ℕ) → IsSized w.nodes w.arcs w.flows w.potentials (slice_set w.reached i true) w.labels w.walk
+sized-marked w i = resized w.sized refl refl (length-set w.reached i true) refl w.sized.short_walk
 
 pub sized-unlabelled : (w : Room) → IsSized w.nodes w.arcs w.flows w.potentials w.reached (replicate w.nodes None) w.walk
 sized-unlabelled w =

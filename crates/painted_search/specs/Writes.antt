@@ -1,8 +1,8 @@
 -- Writes: the room with one part changed.
-use Rattle.std.specs.Prelude.{ℕ, ◌<◌, ℤ, Some, None, List, [], ◌∷◌, ◌++◌, length, replicate, slice_set}
+use Rattle.std.specs.Prelude.{ℕ, ◌<◌, ℤ, true, Some, None, List, [], ◌∷◌, ◌++◌, length, take, drop, replicate, slice_set}
 use Rattle.theory.specs.declared.network.Step.{Step}
 use Rattle.painted_search.specs.Room.{Room, overwritten}
-use Rattle.painted_search.specs.SizedFacts.{sized-flow, sized-potential, sized-potentials, sized-no_walk, sized-step, sized-unlabelled, sized-relabelled}
+use Rattle.painted_search.specs.SizedFacts.{sized-flow, sized-potential, sized-potentials, sized-scratch, sized-word, sized-no_walk, sized-step, sized-marked, sized-unlabelled, sized-relabelled}
 
 abbrev pub with_flow : Room → ℕ → ℤ → Room
 with_flow w j x = record w { flows = slice_set w.flows j x; sized = sized-flow w j x }
@@ -11,13 +11,25 @@ abbrev pub with_potential : Room → ℕ → ℤ → Room
 with_potential w i u = record w { potentials = slice_set w.potentials i u; sized = sized-potential w i u }
 
 abbrev pub with_potentials : Room → List ℤ → Room
-with_potentials w u = record w { potentials = overwritten w.potentials w.nodes u; sized = sized-potentials w u }
+with_potentials w words = record w {
+  potentials = take w.nodes (overwritten w words);
+  scratch = drop w.nodes (overwritten w words);
+  sized = sized-potentials w words;
+  two_words_each = sized-scratch w words;
+}
+
+abbrev pub with_scratch : Room → ℕ → ℤ → Room
+with_scratch w k z = record w { scratch = slice_set w.scratch k z; two_words_each = sized-word w k z }
 
 abbrev pub with_no_walk : Room → Room
 with_no_walk w = record w { walk = []; sized = sized-no_walk w }
 
 abbrev pub with_step : (w : Room) (s : Step) → length w.walk < w.nodes → Room
 with_step w s room = record w { walk = w.walk ++ s ∷ []; sized = sized-step w s room }
+
+-- node i marked and labelled as it was
+abbrev pub with_mark : Room → ℕ → Room
+with_mark w i = record w { reached = slice_set w.reached i true; sized = sized-marked w i }
 
 -- no label anywhere
 abbrev pub unlabelled : Room → Room

@@ -1,5 +1,5 @@
 // The working room of a solve: all that its passes write, taken once.
-ghost use Rattle.std.specs.Prelude.{◌≡◌, ◌*◌, ◌≤◌, length, take, vec_capacity};
+ghost use Rattle.std.specs.Prelude.{◌≡◌, ◌*◌, ◌≤◌, length, take, drop, vec_capacity};
 ghost use Rattle.painted_search.specs.Room.{IsSized};
 
 use std::alloc::{AllocError, Global};
@@ -19,11 +19,12 @@ pub struct Work {
     walk: Vec<Step>,
     ghost sized: { IsSized nodes arcs flows.items (take nodes words.items) marks.items labels.items walk.items },
     ghost words_there: { length words.items ≡ 3 * nodes },
+    ghost scratch_there: { length (drop nodes words.items) ≡ 2 * nodes },
     ghost walk_room: { nodes ≤ vec_capacity walk },
 }
 
 impl Model for Work {
-    ghost use Rattle.std.specs.Prelude.{take};
+    ghost use Rattle.std.specs.Prelude.{take, drop};
     ghost use Rattle.painted_search.specs.Room.{Room};
 
     ghost Value = { Room };
@@ -36,7 +37,9 @@ impl Model for Work {
       reached = work.marks.items;
       labels = work.labels.items;
       walk = work.walk.items;
+      scratch = drop work.nodes work.words.items;
       sized = work.sized;
+      two_words_each = work.scratch_there;
     } };
 }
 
@@ -47,7 +50,7 @@ impl Work {
     ghost use Rattle.theory.specs.Cut.{holds};
     ghost use Rattle.theory.specs.Circuit.{step};
     ghost use Rattle.painted_search.specs.Room.{count_most, IsEmpty};
-    ghost use Rattle.painted_search.specs.Writes.{with_flow, with_potential, with_no_walk, with_step, unlabelled, relabelled};
+    ghost use Rattle.painted_search.specs.Writes.{with_flow, with_potential, with_scratch, with_no_walk, with_step, with_mark, unlabelled, relabelled};
     ghost use Rattle.painted_search.specs.Reaching.{begun, with_reached, with_turned_walk};
     ghost use Rattle.painted_search.specs.Lending.{LendsPotentials};
 
@@ -204,8 +207,33 @@ impl Work {
         self.words.as_mut_slice()
     }
 
+    /// One of the words behind the potentials.
+    pub fn scratch(&self, k: usize) -> i64
+        requires { k < 2 * self.now.nodes }
+        ensures { result ≡ «at» self.now.scratch k }
+    {
+        self.words[self.nodes + k]
+    }
+
+    pub fn set_scratch(&mut self, k: usize, word: i64)
+        requires { k < 2 * self.old.nodes }
+        ensures { self.new ≡ with_scratch self.old k word }
+    {
+        let place = self.nodes + k;
+        self.words[place] = word;
+    }
+
+    /// Marks the node as reached, by no step.
+    pub fn mark(&mut self, node: NodeId)
+        requires { node.0 < self.old.nodes }
+        ensures { self.new ≡ with_mark self.old node.0 }
+    {
+        let place = node.0 as usize;
+        self.marks[place] = true;
+    }
+
     /// Reaches one node alone, by no step.
-    pub(crate) fn begin_at(&mut self, root: NodeId)
+    pub fn begin_at(&mut self, root: NodeId)
         requires { root.0 < self.old.nodes }
         ensures { self.new ≡ begun self.old root.0 }
     {

@@ -1,9 +1,9 @@
--- The words are three times as many as the nodes, so whatever list comes back is cut to their length, and its front to that
--- of the potentials.
-use Rattle.std.proofs.Common.{◌≡◌, ◌≤◌, ◌*◌, ◌++◌, length, take, drop, refl, sym, ap, ◌∙◌, arith}
+-- The words are the potentials and the scratch, three times as many as the nodes; whatever list comes back is cut to their
+-- length.
+use Rattle.std.proofs.Common.{◌≡◌, ℕ, ◌*◌, ℤ, List, ◌++◌, length, take, drop, refl, sym, ap, ◌∙◌}
+use Rattle.std.proofs.lemmas.List.{take-append-drop}
 use Rattle.painted_search.specs.Room.{Room, overwritten}
-use Rattle.painted_search.proofs.Rooms.{with_front, room-same}
-use Rattle.painted_search.proofs.Overwriting.{front-overwritten}
+use Rattle.painted_search.proofs.Rooms.{Lists, with_words, room-same}
 use Rattle.painted_search.proofs.work.Work.potentials_mut.Goals as goal
 
 pub returns : goal.returns
@@ -11,13 +11,24 @@ returns c =
     let n = c.self.inside.nodes in
     let words = c.self.inside.words in
     let nodes : n ≡ c.args.self.now.nodes = ap (λ (w : Room). w.nodes) c.self.view_is in
-    let enough : n ≤ words.len = omega (arith, words.ok.0, c.self.inside.words_there) in (
+    let size : words.len ≡ 3 * n = words.ok.0 ∙ c.self.inside.words_there in
+    let parts = take-append-drop n words.items in
+    let before : List ℤ → Lists = λ all. record {
+      nodes = n;
+      arcs = c.self.inside.arcs;
+      flows = c.self.inside.flows.items;
+      potentials = take n all;
+      reached = c.self.inside.marks.items;
+      labels = c.self.inside.labels.items;
+      walk = c.self.inside.walk.items;
+      scratch = drop n all;
+    } in (
       (
         refl,
         λ w. room-same _ _
-            (ap (λ (v : Room). with_front v (take n (take words.len (w ++ drop (length w) words.items)))) c.self.view_is
-            ∙ ap (with_front c.args.self.now)
-            (front-overwritten n words.len w words.items enough ∙ ap (λ (v : Room). overwritten v.potentials v.nodes w) c.self.view_is)),
+            (ap (λ (k : ℕ). before (take k (w ++ drop (length w) words.items))) size
+            ∙ ap (λ (all : List ℤ). before (take (3 * n) (w ++ drop (length w) all))) (sym parts)
+            ∙ ap (λ (v : Room). with_words v v.nodes (overwritten v w)) c.self.view_is),
       ),
       record {
         writes_back = tt;

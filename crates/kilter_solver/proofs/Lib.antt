@@ -1,0 +1,18 @@
+-- Curves at a flow:
+pub mod NextFlow
+pub mod Prices
+-- Sets of nodes:
+pub mod Marking
+-- How it spreads:
+pub mod Spreading
+pub mod Relaxing
+pub mod Bundles
+pub mod Settling
+-- How flow moves:
+pub mod Lowering
+pub mod Pushing
+pub mod Cutting
+pub mod Serving
+-- The beginning:
+pub mod Clamps
+pub mod InKilter

@@ -1,0 +1,12 @@
+-- Along steps, at nodes:
+pub mod Along
+pub mod Excess
+pub mod Ready
+pub mod Marks
+-- The search for a cheapest route:
+pub mod Spread
+pub mod Routing
+-- The beginning: flows on their curves
+pub mod Clamping
+-- Curves by the arc:
+pub mod BundleFacts

@@ -1,0 +1,107 @@
+// Balancing: from potentials that are feasible to an optimal pair, or to a negative cut.
+ghost use Rattle.std.specs.Prelude.{◌≡◌, ℕ, ◌+◌, ◌*◌, ◌^◌, ◌≤◌, ◌<◌, pos, ◌-ℤ◌, length, map};
+ghost use Rattle.std.specs.List.{All};
+ghost use Rattle.theory.specs.Limits.{IsWithin};
+ghost use Rattle.theory.specs.Network.{«at»};
+ghost use Rattle.theory.specs.Feasible.{IsFeasiblePotential};
+ghost use Rattle.theory.specs.Cut.{IsNegativeCut};
+ghost use Rattle.theory.specs.Certificate.{IsOptimalPair, IsPotentialOf, AreNumbers};
+ghost use Rattle.theory.specs.ReadingBound.{unscaled_unit};
+ghost use Rattle.painted_search.specs.Fits.{Fits};
+ghost use Rattle.painted_search.specs.Room.{with_potential};
+ghost use Rattle.painted_search.specs.Unpriced.{unpriced, IsPassable};
+ghost use Rattle.kilter_solver.specs.Clamping.{IsBegun, IsGroundedBelow, AreNear, IsCleared};
+
+use crate::bundle::Plain;
+use crate::routes::{Routed, route};
+use crate::spread::Routing;
+use crate::words::set_excess;
+use mono_curve::{Monotone, Steps};
+use net_incidence::Net;
+use painted_search::Work;
+use std::sync::ledger::Ledger;
+use theory::{ArcId, NodeId};
+
+/// What balancing found.
+#[derive(Clone, Copy, PartialEq, Eq, Debug)]
+pub enum Balanced {
+    /// Every pair of flow and tension is on its curve, and the flow is conserved.
+    InKilter,
+    /// The marked nodes are a negative cut.
+    Cut,
+}
+
+/// Makes the flows and potentials of the room an optimal pair. It takes no memory.
+pub fn balance<C: Monotone, L: Ledger>(
+    net: &Net,
+    curves: &[C],
+    work: &mut Work,
+    steps: &mut Steps<L>,
+) -> Balanced
+    requires passable { IsPassable net.now (length curves.now) }
+    requires light { All (λ c. C.weight c ≡ 1) curves.now }
+    requires fits { Fits net.now work.old }
+    requires potential { IsFeasiblePotential 1 (unpriced net.now (map C.items curves.now)) work.old.potentials }
+    requires near { AreNear net.now.nodes work.old.potentials }
+    ensures pair { result ≡ Balanced.InKilter → IsOptimalPair (unpriced net.now (map C.items curves.now)) work.new.flows work.new.potentials }
+    ensures flows { result ≡ Balanced.InKilter → AreNumbers (length net.now.arcs) work.new.flows }
+    ensures potentials { result ≡ Balanced.InKilter → IsPotentialOf (unpriced net.now (map C.items curves.now)) work.new.potentials }
+    ensures cut { result ≡ Balanced.Cut → IsNegativeCut (unpriced net.now (map C.items curves.now)) work.new.reached }
+    ensures fits { Fits net.now work.new }
+    ensures no_fewer { steps.old ≤ steps.new }
+    ensures count { steps.new ≤ steps.old + 12 * unscaled_unit net.now.nodes (length net.now.arcs) }
+{
+    let bundle = Plain { curves };
+    begin(work);
+    let routing = Routing {
+        net,
+        bundle: &bundle,
+    };
+    routing.clamp(work, steps);
+    match route(net, &bundle, work, steps) {
+        Routed::Cut => Balanced::Cut,
+        Routed::Done => {
+            ground(work);
+            Balanced::InKilter
+        }
+    }
+}
+
+/// No flow, no excess.
+fn begin(work: &mut Work)
+    ensures { IsBegun work.old work.new }
+{
+    clear_flows(work);
+    for i in 0..work.nodes() {
+        set_excess(work, NodeId(i as u32), 0);
+    }
+}
+
+fn clear_flows(work: &mut Work)
+    ensures { IsCleared work.old.arcs work.old work.new }
+{
+    for j in 0..work.arcs() {
+        work.set_flow(ArcId(j as u32), 0);
+    }
+}
+
+/// Takes the potential of node 0 away from all.
+fn ground(work: &mut Work)
+    requires { (i : ℕ) → IsWithin (2 ^ 60) («at» work.old.potentials i) }
+    ensures { IsGroundedBelow work.old.nodes («at» work.old.potentials 0) work.old work.new }
+{
+    let base = work.potential(NodeId(0));
+    for i in 0..work.nodes() {
+        lower_by(work, NodeId(i as u32), base);
+    }
+}
+
+fn lower_by(work: &mut Work, node: NodeId, base: i64)
+    requires there { node.0 < work.old.nodes }
+    requires potential { IsWithin (2 ^ 60) («at» work.old.potentials node.0) }
+    requires base { IsWithin (2 ^ 60) base }
+    ensures { work.new ≡ with_potential work.old node.0 («at» work.old.potentials node.0 -ℤ base) }
+{
+    let potential = work.potential(node);
+    work.set_potential(node, potential - base);
+}
