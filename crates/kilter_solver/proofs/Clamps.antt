@@ -12,7 +12,8 @@ use Rattle.theory.specs.Readings.{IsRange}
 use Rattle.theory.specs.Network.{«at», tail, head}
 use Rattle.theory.specs.Conserved.{tension}
 use Rattle.net_incidence.specs.Graph.{Graph, bare}
-use Rattle.painted_search.specs.Room.{Room, with_flow, with_scratch}
+use Rattle.painted_search.specs.Room.{Room}
+use Rattle.painted_search.specs.Writes.{with_flow, with_scratch}
 use Rattle.painted_search.proofs.Counting.{total_below-same}
 use Rattle.kilter_solver.specs.Along.{list_at}
 use Rattle.kilter_solver.specs.Excess.{excess, AreExcesses, positive_part, surpluses}

@@ -20,7 +20,7 @@ use Rattle.theory.proofs.SumsBelow.{sum_below-same, sum_below-zero, sum_below-ad
 use Rattle.net_incidence.specs.Graph.{Graph, bare}
 use Rattle.net_incidence.specs.Incidence.{over}
 use Rattle.painted_search.specs.Room.{Room}
-use Rattle.painted_search.specs.Unpriced.{free_at_rest, unpriced}
+use Rattle.painted_search.specs.Unpriced.{without_base, unpriced}
 use Rattle.kilter_solver.specs.Along.{list_at}
 use Rattle.kilter_solver.specs.Excess.{excess, AreExcesses}
 use Rattle.kilter_solver.specs.Spread.{is_near, IsStuck}
@@ -40,7 +40,7 @@ unpriced-network g lists are one_each = record {
   tails = g.good.tails;
   heads = g.good.heads;
   no_loops = g.good.no_loops;
-  one_curve_each = length-map lists free_at_rest ∙ one_each;
+  one_curve_each = length-map lists without_base ∙ one_each;
   curve_lists = λ j l. subst IsCurveList (sym (list-curve lists g j)) (are j);
 }
 

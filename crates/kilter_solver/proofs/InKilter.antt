@@ -25,7 +25,7 @@ use Rattle.theory.proofs.Bounds.{abs_within}
 use Rattle.theory.proofs.SumsBelow.{sum_below-zero}
 use Rattle.curve_views.proofs.ReadingBounds.{small_flow}
 use Rattle.net_incidence.specs.Graph.{Graph, bare}
-use Rattle.painted_search.specs.Room.{Room, most_count}
+use Rattle.painted_search.specs.Room.{Room, count_most}
 use Rattle.painted_search.specs.Fits.{Fits}
 use Rattle.painted_search.specs.Unpriced.{unpriced}
 use Rattle.painted_search.proofs.Counting.{total_below, total_below-order, total_below-zero}
@@ -75,13 +75,13 @@ all-near g w same near i =
 module _ (g : Graph) (lists : List (List Ext)) (are : (j : ℕ) → IsCurveList (list_at lists j)) (within : (j : ℕ) → AreWithin number_most (list_at lists j))
     (one_each : length lists ≡ length g.arcs) (v b : Room) (fits : Fits g v) (potential : IsFeasiblePotential 1 (unpriced g lists) v.potentials)
     (near : AreNear g.nodes v.potentials) (begun : IsBegun v b) where
-  nodes_few : g.nodes ≤ most_count
+  nodes_few : g.nodes ≤ count_most
   nodes_few = omega (arith, fits.same_nodes, v.sized.few_nodes)
 
-  arcs_few : length g.arcs ≤ most_count
+  arcs_few : length g.arcs ≤ count_most
   arcs_few = omega (arith, fits.same_arcs, v.sized.few_arcs)
 
-  near_most : g.nodes * number_most ≤ most_count * number_most
+  near_most : g.nodes * number_most ≤ count_most * number_most
   near_most = omega (arith, mul-le-mul_left number_most nodes_few)
 
   potential_near : (i : ℕ) → IsWithin (g.nodes * number_most) («at» b.potentials i)
@@ -179,7 +179,7 @@ module _ (g : Graph) (lists : List (List Ext)) (are : (j : ℕ) → IsCurveList 
       excesses = clamped.excesses;
     }
 
-    surpluses_most : surpluses g.nodes (excess c) ≤ most_count * number_most
+    surpluses_most : surpluses g.nodes (excess c) ≤ count_most * number_most
     surpluses_most =
         let few = few_surpluses in
         let arcs = arcs_few in
@@ -200,7 +200,7 @@ module _ (g : Graph) (lists : List (List Ext)) (are : (j : ℕ) → IsCurveList 
     -- ---- routed
 
     module _ (r : Room) (balancing : IsBalancing g lists r) (routes : Routes g c r) where
-      routed_high : (i : ℕ) → «at» r.potentials i ≤ℤ pos (most_count * number_most)
+      routed_high : (i : ℕ) → «at» r.potentials i ≤ℤ pos (count_most * number_most)
       routed_high i =
           let falls = routes.falls i in
           let p = clamped_near i in
@@ -210,7 +210,7 @@ module _ (g : Graph) (lists : List (List Ext)) (are : (j : ℕ) → IsCurveList 
 
       routed_low-for : (i : ℕ) → («at» r.potentials i ≡ «at» c.potentials i)
           ⊎ ((t : ℕ) × (t < g.nodes) × (excess c t <ℤ pos 0) × («at» c.potentials t ≤ℤ («at» r.potentials i +ℤ pos (fall_most g))))
-          → neg_ℤ (pos (3 * (most_count * number_most))) ≤ℤ «at» r.potentials i
+          → neg_ℤ (pos (3 * (count_most * number_most))) ≤ℤ «at» r.potentials i
       routed_low-for i (inl same) =
           let p = clamped_near i in
           let low = p.0 in
@@ -222,7 +222,7 @@ module _ (g : Graph) (lists : List (List Ext)) (are : (j : ℕ) → IsCurveList 
           let most = near_most in
           omega (arith, ints)
 
-      routed_low : (i : ℕ) → neg_ℤ (pos (3 * (most_count * number_most))) ≤ℤ «at» r.potentials i
+      routed_low : (i : ℕ) → neg_ℤ (pos (3 * (count_most * number_most))) ≤ℤ «at» r.potentials i
       routed_low i = routed_low-for i (routes.near i).far
 
       pub routed-small : (i : ℕ) → IsWithin (2 ^ 60) («at» r.potentials i)

@@ -16,7 +16,8 @@ use Rattle.theory.specs.Conserved.{divergence, tension}
 use Rattle.theory.specs.Circuit.{begin_of, end_of}
 use Rattle.theory.proofs.SumsBelow.{sum_below-change}
 use Rattle.net_incidence.specs.Graph.{Graph, bare}
-use Rattle.painted_search.specs.Room.{Room, with_flow}
+use Rattle.painted_search.specs.Room.{Room}
+use Rattle.painted_search.specs.Writes.{with_flow}
 use Rattle.painted_search.specs.Path.{label_at}
 use Rattle.kilter_solver.specs.Along.{list_at, directed, IsPairAlong, moved}
 use Rattle.kilter_solver.specs.Ready.{AreOnCurves}

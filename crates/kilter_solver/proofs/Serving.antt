@@ -9,7 +9,8 @@ use Rattle.theory.specs.Limits.{IsWithin}
 use Rattle.theory.specs.Network.{«at»}
 use Rattle.theory.specs.Conserved.{divergence}
 use Rattle.net_incidence.specs.Graph.{Graph, bare}
-use Rattle.painted_search.specs.Room.{Room, most_count, with_scratch}
+use Rattle.painted_search.specs.Room.{Room, count_most}
+use Rattle.painted_search.specs.Writes.{with_scratch}
 use Rattle.painted_search.proofs.Counting.{total_below-same}
 use Rattle.kilter_solver.specs.Excess.{excess, positive_part, surpluses}
 use Rattle.kilter_solver.specs.Ready.{AreOnCurves, Ready}
@@ -307,7 +308,7 @@ balancing-same g lists v w before same = record {
 
 -- ---- ranges on the way
 
-pub ready-on_way : (g : Graph) (lists : List (List Ext)) (v w : Room) → IsSafe g v → Routes g v w → IsBalancing g lists w → g.nodes ≤ most_count
+pub ready-on_way : (g : Graph) (lists : List (List Ext)) (v w : Room) → IsSafe g v → Routes g v w → IsBalancing g lists w → g.nodes ≤ count_most
     → Ready g lists w
 ready-on_way g lists v w safe routes balancing few = record {
   same_nodes = balancing.same_nodes;

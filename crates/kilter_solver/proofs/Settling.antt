@@ -9,7 +9,8 @@ use Rattle.theory.specs.declared.network.NodeId.{NodeId}
 use Rattle.theory.specs.Cut.{holds}
 use Rattle.net_incidence.specs.Graph.{Graph}
 use Rattle.net_incidence.specs.Incidence.{incident_steps}
-use Rattle.painted_search.specs.Room.{Room, with_mark}
+use Rattle.painted_search.specs.Room.{Room}
+use Rattle.painted_search.specs.Writes.{with_mark}
 use Rattle.painted_search.proofs.Degrees.{degrees}
 use Rattle.kilter_solver.specs.Excess.{excess}
 use Rattle.kilter_solver.specs.Marks.{marked_total}

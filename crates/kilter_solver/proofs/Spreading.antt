@@ -16,7 +16,9 @@ use Rattle.theory.specs.Cut.{holds}
 use Rattle.theory.specs.Circuit.{step, begin_of, end_of}
 use Rattle.net_incidence.specs.Graph.{Graph, bare}
 use Rattle.net_incidence.specs.Incidence.{incident_steps}
-use Rattle.painted_search.specs.Room.{Room, most_count, with_scratch, with_mark, begun}
+use Rattle.painted_search.specs.Room.{Room, count_most}
+use Rattle.painted_search.specs.Writes.{with_scratch, with_mark}
+use Rattle.painted_search.specs.Reaching.{begun}
 use Rattle.painted_search.specs.Path.{label_at}
 use Rattle.painted_search.proofs.Degrees.{incident-stands}
 use Rattle.kilter_solver.specs.Along.{list_at, rise, directed, IsPairAlong}
@@ -247,7 +249,7 @@ key-within g lists source opened w i spread ready near =
     let few = count-most g.nodes w.reached in
     let nodes = w.sized.few_nodes in
     let same = ready.same_nodes in
-    let deeper : spread.rank i ≤ most_count = omega arith in
+    let deeper : spread.rank i ≤ count_most = omega arith in
     let size = mul-le-mul_left number_most deeper in
     let here = ready.potentials i in
     let here_low = here.0 in

@@ -11,7 +11,8 @@ use Rattle.theory.specs.Network.{«at»}
 use Rattle.theory.specs.Cut.{holds}
 use Rattle.theory.specs.Circuit.{begin_of, end_of}
 use Rattle.net_incidence.specs.Graph.{Graph, bare}
-use Rattle.painted_search.specs.Room.{Room, with_scratch, relabelled}
+use Rattle.painted_search.specs.Room.{Room}
+use Rattle.painted_search.specs.Writes.{with_scratch, relabelled}
 use Rattle.painted_search.specs.Path.{label_at}
 use Rattle.kilter_solver.specs.Along.{list_at, rise, IsPairAlong, moved}
 use Rattle.kilter_solver.specs.Excess.{excess}

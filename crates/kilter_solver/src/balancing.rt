@@ -8,7 +8,7 @@ ghost use Rattle.theory.specs.Cut.{IsNegativeCut};
 ghost use Rattle.theory.specs.Certificate.{IsOptimalPair, IsPotentialOf, AreNumbers};
 ghost use Rattle.theory.specs.ReadingBound.{unscaled_unit};
 ghost use Rattle.painted_search.specs.Fits.{Fits};
-ghost use Rattle.painted_search.specs.Room.{with_potential};
+ghost use Rattle.painted_search.specs.Writes.{with_potential};
 ghost use Rattle.painted_search.specs.Unpriced.{unpriced, IsPassable};
 ghost use Rattle.kilter_solver.specs.Clamping.{IsBegun, IsGroundedBelow, AreNear, IsCleared};
 

@@ -4,7 +4,7 @@ ghost use Rattle.theory.specs.Limits.{IsWithin, arg_most};
 ghost use Rattle.theory.specs.Network.{«at»};
 ghost use Rattle.theory.specs.Conserved.{IsConserved};
 ghost use Rattle.theory.specs.Cut.{IsNegativeCut, holds};
-ghost use Rattle.painted_search.specs.Room.{with_flow, with_potential, with_scratch};
+ghost use Rattle.painted_search.specs.Writes.{with_flow, with_potential, with_scratch};
 ghost use Rattle.painted_search.specs.Unpriced.{unpriced};
 ghost use Rattle.kilter_solver.specs.Along.{moved};
 ghost use Rattle.kilter_solver.specs.Excess.{excess, surpluses};

@@ -1,6 +1,6 @@
 // The scratch words of a room, as the search for routes uses them: an excess and a key for each node.
 ghost use Rattle.std.specs.Prelude.{◌≡◌, ◌+◌, ◌<◌};
-ghost use Rattle.painted_search.specs.Room.{with_scratch};
+ghost use Rattle.painted_search.specs.Writes.{with_scratch};
 ghost use Rattle.kilter_solver.specs.Excess.{excess};
 ghost use Rattle.kilter_solver.specs.Spread.{key, is_near};
 

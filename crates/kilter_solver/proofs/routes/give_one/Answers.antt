@@ -1,6 +1,6 @@
 use Rattle.std.proofs.Common.{ap, ◌∙◌, arith}
 use Rattle.std.proofs.lemmas.Int.{ints}
-use Rattle.painted_search.specs.Room.{with_scratch}
+use Rattle.painted_search.specs.Writes.{with_scratch}
 use Rattle.kilter_solver.proofs.routes.give_one.Goals as goal
 
 pub returns : goal.returns

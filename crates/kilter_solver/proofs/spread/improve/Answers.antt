@@ -1,7 +1,8 @@
 use Rattle.std.proofs.Common.{◌≤ℤ◌, IsTrue, sym, ap, ◌∙◌, to_z-of_z, arith}
 use Rattle.std.proofs.lemmas.Int.{ints}
 use Rattle.std.proofs.lemmas.Bool.{false≢true}
-use Rattle.painted_search.specs.Room.{Room, relabelled}
+use Rattle.painted_search.specs.Room.{Room}
+use Rattle.painted_search.specs.Writes.{relabelled}
 use Rattle.kilter_solver.specs.Spread.{key, is_near, relaxed, lowered}
 use Rattle.kilter_solver.proofs.spread.improve.Goals as goal
 use Rattle.kilter_solver.proofs.spread.improve.Goals.{else-is_met-via-then-is_met+else-key-offer, else-is_met-via-else-is_met}

@@ -1,5 +1,5 @@
 use Rattle.std.proofs.Common.{◌+◌, ap, ◌∙◌, w64, to_z, of_z, to_z-of_z}
-use Rattle.painted_search.specs.Room.{with_scratch}
+use Rattle.painted_search.specs.Writes.{with_scratch}
 use Rattle.kilter_solver.proofs.words.set_key.Goals as goal
 
 pub returns : goal.returns

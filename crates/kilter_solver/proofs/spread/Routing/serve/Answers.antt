@@ -1,7 +1,8 @@
 use Rattle.std.proofs.Common.{◌≡◌, ℤ, pos, ◌+ℤ◌, ◌-ℤ◌, List, refl, ap, ◌∙◌, arith}
 use Rattle.std.proofs.lemmas.Int.{ints}
 use Rattle.theory.specs.Network.{«at»}
-use Rattle.painted_search.specs.Room.{Room, with_scratch}
+use Rattle.painted_search.specs.Room.{Room}
+use Rattle.painted_search.specs.Writes.{with_scratch}
 use Rattle.kilter_solver.specs.Excess.{excess}
 use Rattle.kilter_solver.specs.Spread.{key}
 use Rattle.kilter_solver.proofs.Spreading.{key-within}

@@ -1,7 +1,8 @@
 use Rattle.std.proofs.Common.{◌≡◌, ℤ, ◌+◌, ◌^◌, sym, ap, ◌∙◌, subst, to_z-of_z, arith}
 use Rattle.std.proofs.lemmas.Int.{ints}
 use Rattle.theory.specs.Limits.{IsWithin}
-use Rattle.painted_search.specs.Room.{Room, with_flow}
+use Rattle.painted_search.specs.Room.{Room}
+use Rattle.painted_search.specs.Writes.{with_flow}
 use Rattle.kilter_solver.specs.Excess.{excess}
 use Rattle.kilter_solver.proofs.Clamps.{shifted-by, word-within}
 use Rattle.kilter_solver.proofs.spread.Routing.shift_to.Goals as goal

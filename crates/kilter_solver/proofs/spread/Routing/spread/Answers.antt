@@ -2,7 +2,8 @@ use Rattle.std.proofs.Common.{◌≡◌, ◌+◌, pos, ◌≤ℤ◌, true, set, 
 use Rattle.std.proofs.lemmas.Int.{ints}
 use Rattle.std.proofs.Math.Nat.{mul-le-mul_left}
 use Rattle.theory.specs.Cut.{holds}
-use Rattle.painted_search.specs.Room.{Room, with_scratch}
+use Rattle.painted_search.specs.Room.{Room}
+use Rattle.painted_search.specs.Writes.{with_scratch}
 use Rattle.kilter_solver.specs.Excess.{excess}
 use Rattle.kilter_solver.specs.Marks.{count_of}
 use Rattle.kilter_solver.specs.Spread.{Spread}
