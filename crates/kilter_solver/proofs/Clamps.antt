@@ -24,12 +24,6 @@ use Rattle.kilter_solver.proofs.Pushing.{divergence-changed}
 
 -- ---- between the ends of a range
 
-pub near-pair : (items : List Ext) (x v : ℤ) (low high : Ext) → IsRange items v low high → HasPairNear shift_most items x v
-    → HasNear shift_most low high x
-near-pair items x v low high range has =
-    let ends = (range.pairs has.flow).0 has.pair in
-    record { some = has.flow; under = ends.0; over = ends.1; near = has.near }
-
 pub closest-flow : (items : List Ext) (x v z : ℤ) (low high : Ext) → IsRange items v low high → IsClosest low high x z → IsClosestFlow items x v z
 closest-flow items x v z low high range closest = record {
   pair = (range.pairs z).1 (closest.under, closest.over);
@@ -235,16 +229,6 @@ small-shifted g j d v w most there shift small before i below =
 
 -- ---- arc by arc
 
-pub clamped-begun : (g : Graph) (lists : List (List Ext)) (v : Room) → IsLoose g lists v → IsClampedBelow 0 g lists v v
-clamped-begun g lists v loose = record {
-  same = record { nodes = refl; arcs = refl; potentials = refl };
-  excesses = loose.excesses;
-  small = λ i l. (let s = loose.small i l in let low = s.0 in let high = s.1 in (omega (arith, ints), omega (arith, ints)));
-  closest = λ j l. absurd (omega arith);
-  stays = λ j l. refl;
-  surplus = omega arith;
-}
-
 shifts-more : (n : ℕ) (x y z : List ℤ) → ((j : ℕ) → j < n → «at» z j ≡ «at» y j) → «at» y n ≡ «at» x n
     → shifts (n + 1) x z ≡ shifts n x y + unsigned_abs («at» z n -ℤ «at» y n)
 shifts-more n x y z same here =
@@ -290,20 +274,4 @@ clamped-more g lists v w r n before there one =
           (cases_lt j n);
       stays = λ j l. shift.others j (λ e. omega arith) ∙ before.stays j (omega arith);
       surplus = omega arith;
-    }
-
--- what the next arc needs
-pub clampable : (g : Graph) (lists : List (List Ext)) (v w : Room) (n : ℕ) → IsLoose g lists v → IsClampedBelow n g lists v w → n < length g.arcs
-    → n ≤ 2 ^ 20 → IsClampable g lists w n
-clampable g lists v w n loose before there few =
-    let stays = before.stays n (omega arith) in
-    record {
-      same_nodes = before.same.nodes ∙ loose.same_nodes;
-      same_arcs = before.same.arcs ∙ loose.same_arcs;
-      one_list_each = loose.one_list_each;
-      small = λ i l. (let s = before.small i l in let low = s.0 in let high = s.1 in (omega (arith, ints), omega (arith, ints)));
-      flow = subst (λ (x : ℤ). IsWithin (2 ^ 61) x) (sym stays) (loose.flows n);
-      potentials = λ i. subst (λ (u : List ℤ). IsWithin reach_most («at» u i)) (sym before.same.potentials) (loose.potentials i);
-      near = subst (λ (u : List ℤ). HasPairNear shift_most (list_at lists n) («at» w.flows n) (tension (bare g) («at» u) n)) (sym before.same.potentials)
-          (subst (λ (x : ℤ). HasPairNear shift_most (list_at lists n) x (tension (bare g) («at» v.potentials) n)) (sym stays) (loose.near n there));
     }

@@ -122,9 +122,6 @@ module _ (g : Graph) (lists : List (List Ext)) (are : (j : ℕ) → IsCurveList 
     c_nodes : c.nodes ≡ g.nodes
     c_nodes = clamped.same.nodes ∙ begun.same.nodes ∙ fits.same_nodes
 
-    potentials_same : c.potentials ≡ v.potentials
-    potentials_same = clamped.same.potentials ∙ begun.same.potentials
-
     clamped_near : (i : ℕ) → IsWithin (g.nodes * number_most) («at» c.potentials i)
     clamped_near i =
         subst (λ (u : List ℤ). IsWithin (g.nodes * number_most) («at» u i)) (sym clamped.same.potentials) (potential_near i)

@@ -66,12 +66,6 @@ count-most n side =
     let ones = total_below-ones n in
     omega arith
 
-pub count-fewer : (n : ℕ) (side : List Bool) (i : ℕ) → i < n → i < length side → holds side i ≡ false → count_of n side < n
-count-fewer n side i l there out =
-    let more = marked_total-set n (λ k. 1) side i l there out in
-    let most = count-most n (set side i true) in
-    omega arith
-
 pub marked_total-term : (n : ℕ) (f : ℕ → ℕ) (side : List Bool) (i : ℕ) → i < n → IsTrue (holds side i) → f i ≤ marked_total n f side
 marked_total-term n f side i l h =
     let term = total_below-term n i (marked f side) l in

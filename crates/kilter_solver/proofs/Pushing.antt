@@ -194,15 +194,3 @@ module _ (g : Graph) (lists : List (List Ext)) (source target : ℕ) (v w : Room
             (λ (apart : i ≡ j → ⊥). old i apart ∙ before.untouched i l (omega arith) (omega arith))
             (cases_eq i j);
       }
-
-pub pushing-done : (g : Graph) (lists : List (List Ext)) (source target : ℕ) (v w : Room) (node : ℕ)
-    → IsPushing g lists source target v w node g.nodes → IsPushed g lists source target v w
-pushing-done g lists source target v w node all =
-    ⊎_elim
-    (λ (same : node ≡ source). subst (λ (n : ℕ). IsPushed g lists n target v w) same all.pushed)
-    (λ (other : node ≡ source → ⊥).
-    let to = all.route.ways node all.on other in
-    let deeper = to.is.deeper in
-    let short = all.short in
-    absurd (omega arith))
-    (cases_eq node source)

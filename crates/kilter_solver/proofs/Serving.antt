@@ -224,18 +224,6 @@ still-lacks v p q w source target left bound lacks surplus fall same is =
 
 -- ---- one after the other
 
-pub routes-none : (g : Graph) (v : Room) → Routes g v v
-routes-none g v = record {
-  fewer = omega arith;
-  moves_up = λ j. omega (arith, ints);
-  moves_down = λ j. omega (arith, ints);
-  falls = λ i. omega (arith, ints);
-  lacked = λ i l h. h;
-  lacking = λ i l h. refl;
-  near = λ i. record { far = inl refl };
-  sated = λ i l h. h;
-}
-
 module _ (g : Graph) (u v w : Room) (routes : Routes g u v) (sent : IsSent g v w) where
   far-further-for : (i : ℕ) → («at» w.potentials i ≡ «at» v.potentials i)
       ⊎ ((t : ℕ) × (t < g.nodes) × (excess v t <ℤ pos 0) × («at» v.potentials t ≤ℤ («at» w.potentials i +ℤ pos (fall_most g)))) → IsNotFar g u v i → IsNotFar g u w i

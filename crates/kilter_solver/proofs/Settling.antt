@@ -1,11 +1,10 @@
 -- How a search settles nodes. Each is settled once, so the steps that are tried at all of them are at most two for each arc.
-use Rattle.std.proofs.Common.{◌≡◌, ℕ, ◌+◌, ◌*◌, ◌<◌, ◌≤◌, pos, ◌≤ℤ◌, Bool, true, false, IsTrue, Option, Some, None, List, length, set, refl, sym, ap, ◌∙◌, subst, ⊎_elim, arith}
+use Rattle.std.proofs.Common.{◌≡◌, ℕ, ◌+◌, ◌*◌, ◌<◌, ◌≤◌, pos, ◌≤ℤ◌, Bool, true, false, IsTrue, List, length, set, refl, sym, ap, ◌∙◌, subst, ⊎_elim, arith}
 use Rattle.std.proofs.lemmas.Int.{ints}
 use Rattle.std.proofs.lemmas.Bool.{cases_eq}
 use Rattle.std.proofs.lemmas.List.{get_or-set_other}
 use Rattle.std.proofs.Math.Nat.{mul-le-mul_left}
 use Rattle.theory.specs.declared.ext.Ext.{Ext}
-use Rattle.theory.specs.declared.network.NodeId.{NodeId}
 use Rattle.theory.specs.Cut.{holds}
 use Rattle.net_incidence.specs.Graph.{Graph}
 use Rattle.net_incidence.specs.Incidence.{incident_steps}
@@ -15,7 +14,7 @@ use Rattle.painted_search.proofs.Degrees.{degrees}
 use Rattle.kilter_solver.specs.Excess.{excess}
 use Rattle.kilter_solver.specs.Marks.{marked_total}
 use Rattle.kilter_solver.specs.Ready.{Ready}
-use Rattle.kilter_solver.specs.Spread.{Spread, IsBestBelow, IsNearestOf, IsSameState, IsLater}
+use Rattle.kilter_solver.specs.Spread.{Spread, IsSameState, IsLater}
 use Rattle.kilter_solver.proofs.Marking.{holds-set_other, marked_total-set, marked_total-most}
 use Rattle.kilter_solver.proofs.Spreading.{near-done, near-below, started, started-alone, ready-same}
 
@@ -39,17 +38,6 @@ spent-most g side weight start new before =
     let all = degrees g.nodes g.arcs in
     let few : marked_total g.nodes (degree g) side ≤ 2 * length g.arcs = omega arith in
     omega (arith, mul-le-mul_left weight few)
-
--- ---- the nearest node
-
-pub best-nearest : (w : Room) (n : ℕ) (best : Option NodeId) → IsBestBelow w n best → n ≡ w.nodes → IsNearestOf w best
-best-nearest w n None best all = λ k near. best k (let below = near-below w k near in omega arith) near
-best-nearest w n (Some node) best all = record {
-  there = best.there;
-  near = best.near;
-  waits = best.waits;
-  least = λ k near waits. best.least k (let below = near-below w k near in omega arith) near waits;
-}
 
 -- ---- settled nodes lack nothing
 

@@ -11,3 +11,6 @@ mod words;
 pub use balancing::{Balanced, balance};
 pub use bundle::{Bundle, Plain};
 pub use routes::{Routed, route};
+
+#[cfg(test)]
+mod tests;
