@@ -16,8 +16,7 @@ use Rattle.painted_search.specs.Room.{Room, with_flow, with_scratch}
 use Rattle.painted_search.proofs.Counting.{total_below-same}
 use Rattle.kilter_solver.specs.Along.{list_at}
 use Rattle.kilter_solver.specs.Excess.{excess, AreExcesses, positive_part, surpluses}
-use Rattle.kilter_solver.specs.Ready.{reach_most}
-use Rattle.kilter_solver.specs.Clamping.{word_most, HasNear, IsClosest, HasPairNear, IsClosestFlow, shift_most, IsLoose, shifts, IsClampedBelow, IsClampable, IsShifted, IsClampedOne}
+use Rattle.kilter_solver.specs.Clamping.{word_most, IsClosest, IsClosestFlow, shift_most, shifts, IsClampedBelow, IsClampable, IsShifted, IsClampedOne}
 use Rattle.kilter_solver.proofs.Marking.{total_below-change}
 use Rattle.kilter_solver.proofs.Pushing.{divergence-changed}
 
