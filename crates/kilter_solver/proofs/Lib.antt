@@ -16,3 +16,5 @@ pub mod Serving
 -- The beginning:
 pub mod Clamps
 pub mod InKilter
+-- In tests:
+pub mod Beginning

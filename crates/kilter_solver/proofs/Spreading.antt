@@ -67,7 +67,7 @@ end_below g s there =
 
 -- ---- the beginning
 
-replicate-at : {A : Type 0} (n k : ℕ) (a : A) → get_or (replicate n a) k a ≡ a
+pub replicate-at : {A : Type 0} (n k : ℕ) (a : A) → get_or (replicate n a) k a ≡ a
 replicate-at zero k a = refl
 replicate-at (suc n) zero a = refl
 replicate-at (suc n) (suc k) a = replicate-at n k a

@@ -28,10 +28,10 @@ fn net_of(rt: &(impl Abort + AllocGlobal), nodes: u32, arcs: &[(u32, u32)]) -> R
     Ok(net)
 }
 
-fn curves_of(rt: &(impl Abort + AllocGlobal), lists: &[&[Ext]]) -> Result<Vec<Curve>, Fail> {
+fn curves_of(rt: &(impl Abort + AllocGlobal), lists: &[[Ext; 3]]) -> Result<Vec<Curve>, Fail> {
     let mut curves = Vec::new(rt.alloc());
     for items in lists {
-        curves.push(Curve::of_list(rt.alloc(), *items, 0)?)?;
+        curves.push(Curve::of_list(rt.alloc(), items.as_slice(), 0)?)?;
     }
     Ok(curves)
 }
@@ -40,8 +40,8 @@ fn curves_of(rt: &(impl Abort + AllocGlobal), lists: &[&[Ext]]) -> Result<Vec<Cu
 fn is_level<C: Monotone, L: Ledger>(curves: &[C], steps: &mut Steps<L>) -> bool
     ensures { IsTrue result → (j : ℕ) → j < length curves.now → InSpan 1 (list_at (map C.items curves.now) j) (pos 0) }
 {
-    for curve in curves {
-        let (low, high) = curve.span(steps);
+    for j in 0..curves.len() {
+        let (low, high) = curves[j].span(steps);
         if !is_between(low, high, 0) {
             return false;
         }
@@ -72,19 +72,13 @@ fn balanced<L: Ledger>(
 
 #[test]
 fn finds_optimal_pairs_and_cuts(rt: HostRuntime) -> Result<(), Fail> {
-    let three: &[Ext] = &[Ext::At(3)];
-    let four: &[Ext] = &[Ext::At(4)];
-    // Up to 2 units at a price of 1, 5 or -4 each, and any flow at a price that rises from -1 to 2.
-    let cheap: &[Ext] = &[Ext::At(0), Ext::At(1), Ext::At(2)];
-    let dear: &[Ext] = &[Ext::At(0), Ext::At(5), Ext::At(2)];
-    let paid: &[Ext] = &[Ext::At(0), Ext::At(-4), Ext::At(2)];
-    let any: &[Ext] = &[
-        Ext::MinusInf,
-        Ext::At(-1),
-        Ext::At(0),
-        Ext::At(2),
-        Ext::PlusInf,
-    ];
+    // Up to 2 units at a price of 1, 5 or -4 each; no less than 3 or 4 units; any flow.
+    let cheap = [Ext::At(0), Ext::At(1), Ext::At(2)];
+    let dear = [Ext::At(0), Ext::At(5), Ext::At(2)];
+    let paid = [Ext::At(0), Ext::At(-4), Ext::At(2)];
+    let three = [Ext::At(3), Ext::At(0), Ext::PlusInf];
+    let four = [Ext::At(4), Ext::At(0), Ext::PlusInf];
+    let any = [Ext::MinusInf, Ext::At(0), Ext::PlusInf];
     for (nodes, arcs, lists, found, flows, potentials) in [
         // A node alone.
         (
@@ -95,7 +89,7 @@ fn finds_optimal_pairs_and_cuts(rt: HostRuntime) -> Result<(), Fail> {
             [].as_slice(),
             [0].as_slice(),
         ),
-        // 3 units forced through: 2 over the cheap arc, 1 over the dear one.
+        // 2 units over the cheap arc, 1 over the dear one.
         (
             2,
             [(0, 1), (0, 1), (1, 0)].as_slice(),
@@ -120,9 +114,9 @@ fn finds_optimal_pairs_and_cuts(rt: HostRuntime) -> Result<(), Fail> {
             [three, any].as_slice(),
             Balanced::InKilter,
             [3, -3].as_slice(),
-            [0, -1].as_slice(),
+            [0, 0].as_slice(),
         ),
-        // 4 units and room for 2.
+        // No less than 4 units, and room for 2.
         (
             2,
             [(0, 1), (1, 0)].as_slice(),
