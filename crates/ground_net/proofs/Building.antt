@@ -73,6 +73,7 @@ grounded-is m formed =
       tails = λ i l. tail-ground m i (omega arith);
       heads = λ i l. head-ground m i (omega arith);
       arc_each = omega arith;
+      ground_there = omega arith;
       few_nodes = omega (arith, formed.nodes_most);
       few_arcs = omega (arith, formed.nodes_most, formed.arcs_most);
     }

@@ -8,11 +8,12 @@ use Rattle.mono_curve.specs.CurveValue.{CurveValue}
 abbrev pub listings : List CurveValue → List Listing
 listings curves = map (λ c. c.listing) curves
 
--- arc i runs from node 0 to node i + 1, for each node above 0; the counts are those that a model allows
+-- node 0 is the ground, and arc i runs from it to node i + 1, for each node above 0; the counts are those that a model allows
 pub record IsGrounded (net : Network) : Type 0 where
   pub is_network : IsNetwork net
   pub tails : (i : ℕ) → i + 1 < net.nodes → tail net i ≡ 0
   pub heads : (i : ℕ) → i + 1 < net.nodes → head net i ≡ i + 1
+  pub ground_there : 1 ≤ net.nodes
   pub arc_each : net.nodes ≤ length net.arcs + 1
   pub few_nodes : net.nodes ≤ 2001
   pub few_arcs : length net.arcs ≤ 12000

@@ -16,5 +16,9 @@ pub mod Serving
 -- The beginning:
 pub mod Clamps
 pub mod InKilter
+-- Certificates of what was found:
+pub mod CostSums
+pub mod Parts
+pub mod Pairs
 -- In tests:
 pub mod Beginning

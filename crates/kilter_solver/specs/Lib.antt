@@ -8,5 +8,8 @@ pub mod Spread
 pub mod Routing
 -- The beginning: flows on their curves
 pub mod Clamping
+-- Certificates of what was found:
+pub mod Whole
+pub mod CostSum
 -- Curves by the arc:
 pub mod BundleFacts

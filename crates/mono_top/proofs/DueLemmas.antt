@@ -25,10 +25,10 @@ use Rattle.mono_top.specs.Due.{IsDue}
 use Rattle.mono_top.specs.FindsFeasible.{FindsFeasible, status_of_parts}
 use Rattle.mono_top.specs.Request.{Request, solve, check, feasible, show_curve}
 use Rattle.mono_top.specs.ShowsCurve.{ShowsCurve, ShowsAt}
-use Rattle.mono_top.specs.Solves.{SolvesModel, AreAllPoints, IsCertified, status_of}
+use Rattle.mono_top.specs.Solves.{IsCertified, status_of}
 use Rattle.mono_top.specs.declared.lines.Place.TheVariants.{Second}
 use Rattle.mono_top.specs.declared.status.Status.{Status}
-use Rattle.mono_top.specs.declared.status.Status.TheVariants.{Done, Cut, Circuit, Rejected, Usage, ModelRefused, Missing, ReadFault, TooLong, UnknownArc, Unbuilt, NoMemory}
+use Rattle.mono_top.specs.declared.status.Status.TheVariants.{Done, Cut, Circuit, Rejected, Usage, ModelRefused, Missing, ReadFault, TooLong, UnknownArc}
 use Rattle.mono_top.proofs.ModelFileLemmas.{IsOwn, IsModelAnswer, own_answer, of_last, not_then, of_text, reached, due_of_model}
 
 -- ---- `solve`
@@ -55,34 +55,11 @@ certified_kind m status text certified = of_kind certified.certificate certified
     of_kind (cut side capacity) is = inr (inl is)
     of_kind (circuit x walk span) is = inr (inr is)
 
-solves_own : (m : Entries) (status : Status) (text : List ℕ) → SolvesModel m status text → IsOwn status
-solves_own m status text (inl (points, certified)) = kind_own status (certified_kind m status text certified)
-solves_own m status text (inr (beyond, is, line)) = search rules
-
--- a status that no answer of `solve` has
-solves_not : (other : Status) (m : Entries) (status : Status) (text : List ℕ) → other ≢ Done → other ≢ Cut → other ≢ Circuit → other ≢ Unbuilt
-    → SolvesModel m status text → status ≢ other
-solves_not other m status text not_done not_cut not_circuit built (inl (points, certified)) =
-    kind_not status other not_done not_cut not_circuit (certified_kind m status text certified)
-solves_not other m status text not_done not_cut not_circuit built (inr (beyond, is, said)) = λ same. built (sym same ∙ is)
-
-solves_answer : (outside : Outside) → IsModelAnswer [] outside SolvesModel
-solves_answer outside = own_answer outside SolvesModel solves_own
-    (λ m status text line word solves. solves_not (ModelRefused line word) m status text (λ e. cc) (λ e. cc) (λ e. cc) (λ e. cc) solves)
-
-solves_beyond : (m : Entries) (status : Status) (text : List ℕ) → SolvesModel m status text → status ≡ Unbuilt → ¬ AreAllPoints m
-solves_beyond m status text (inl (points, certified)) unbuilt =
-    absurd (kind_not status Unbuilt (λ e. cc) (λ e. cc) (λ e. cc) (certified_kind m status text certified) unbuilt)
-solves_beyond m status text (inr (beyond, is, said)) unbuilt = beyond
-
-beyond_solves : (m : Entries) (status : Status) (text : List ℕ) → SolvesModel m status text → ¬ AreAllPoints m → status ≡ Unbuilt
-beyond_solves m status text (inl (points, certified)) beyond = absurd (beyond points)
-beyond_solves m status text (inr (far, is, said)) beyond = is
-
--- a model of single points is certified
-points_certified : (m : Entries) (status : Status) (text : List ℕ) → SolvesModel m status text → AreAllPoints m → IsCertified m status text
-points_certified m status text (inl (all, certified)) points = certified
-points_certified m status text (inr (far, is, said)) points = absurd (far points)
+solves_answer : (outside : Outside) → IsModelAnswer [] outside IsCertified
+solves_answer outside = own_answer outside IsCertified
+    (λ m status text certified. kind_own status (certified_kind m status text certified))
+    (λ m status text line word certified.
+    kind_not status (ModelRefused line word) (λ e. cc) (λ e. cc) (λ e. cc) (certified_kind m status text certified))
 
 -- ---- `check`
 
@@ -184,10 +161,6 @@ shows_answer arc outside = own_answer outside (ShowsCurve arc)
     (λ m status text shows. shows_own m (place_of (arc_names m) arc) status text shows)
     (λ m status text line word shows. shows_reads m (place_of (arc_names m) arc) status text line word shows)
 
-shows_built : (m : Entries) (at : Option ℕ) (status : Status) (text : List ℕ) → ShowsAt m at status text → status ≢ Unbuilt
-shows_built m (Some j) status text shows unbuilt = let is = shows.0 in cc
-shows_built m None status text shows unbuilt = let is = shows.0 in cc
-
 shows_accepted : (m : Entries) (at : Option ℕ) (status : Status) (text : List ℕ) → ShowsAt m at status text → status ≢ Rejected
 shows_accepted m (Some j) status text shows rejected = let is = shows.0 in cc
 shows_accepted m None status text shows rejected = let is = shows.0 in cc
@@ -206,7 +179,7 @@ unknown_shows m None status text shows none = shows.0
 pub due : (request : Option Request) (outside : Outside) (status : Status) (text : List ℕ) → Answers request outside status text → IsDue request outside status
 due None outside status text refused = search rules
 due (Some (solve model)) outside status text answers =
-    let all = due_of_model model [] SolvesModel outside status text (solves_answer outside) answers in
+    let all = due_of_model model [] IsCertified outside status text (solves_answer outside) answers in
     record {
       usage = λ is. absurd (all.listed is);
       usage_always = λ none. cc;
@@ -215,16 +188,11 @@ due (Some (solve model)) outside status text answers =
       refused_always = all.refused_always;
       rejected = λ is files told.
           let of = all.next (search rules) (λ line word e. cc) files told in
-          absurd (solves_not Rejected of.3.model status text (λ e. cc) (λ e. cc) (λ e. cc) (λ e. cc) of.3.next is);
+          absurd (kind_not status Rejected (λ e. cc) (λ e. cc) (λ e. cc) (certified_kind of.3.model status text of.3.next) is);
       rejected_always = λ files told asks quiet. absurd asks.2;
-      unbuilt = λ is files told.
-          let of = all.next (search rules) (λ line word e. cc) files told in
-          (of.0, of.1, of.2, (of.3.model, of.3.spells, solves_beyond of.3.model status text of.3.next is));
-      unbuilt_always = λ files told asks quiet.
-          beyond_solves asks.3.0 status text (all.next_always files told asks.3.0 (asks.0, asks.1, asks.2, asks.3.1) (all.quiet quiet)) asks.3.2;
       unknown_arc = λ is files told.
           let of = all.next (search rules) (λ line word e. cc) files told in
-          absurd (solves_not UnknownArc of.3.model status text (λ e. cc) (λ e. cc) (λ e. cc) (λ e. cc) of.3.next is);
+          absurd (kind_not status UnknownArc (λ e. cc) (λ e. cc) (λ e. cc) (certified_kind of.3.model status text of.3.next) is);
       unknown_arc_always = λ files told asks quiet. absurd asks;
     }
 due (Some (check model certificate)) outside status text answers =
@@ -252,10 +220,6 @@ due (Some (check model certificate)) outside status text answers =
           let checks = reached Second certificate (ChecksText asks.0) outside status text next (all.quiet quiet) files told second.0 second.1 second.2 in
           let told_so = judged asks.0 second.0 status text (spelled_is_formed first.0 asks.0 first.3) checks in
           invalid_is_rejected asks.0 second.0 status told_so (λ valid. asks.3 (subst (λ (b : List ℕ). IsValidText asks.0 b) second.3 valid));
-      unbuilt = λ is files told.
-          let of = all.next (search rules) (λ line word e. cc) files told in
-          absurd (checks_not Unbuilt certificate outside of.3.model status text (λ e. cc) (λ e. cc) (λ e. cc) (λ e. cc) (λ e. cc) of.3.next is);
-      unbuilt_always = λ files told asks quiet. absurd asks;
       unknown_arc = λ is files told.
           let of = all.next (search rules) (λ line word e. cc) files told in
           absurd (checks_not UnknownArc certificate outside of.3.model status text (λ e. cc) (λ e. cc) (λ e. cc) (λ e. cc) (λ e. cc) of.3.next is);
@@ -273,10 +237,6 @@ due (Some (feasible model)) outside status text answers =
           let of = all.next (search rules) (λ line word e. cc) files told in
           absurd (kind_not status Rejected (λ e. cc) (λ e. cc) (λ e. cc) (finds_kind of.3.model status text of.3.next) is);
       rejected_always = λ files told asks quiet. absurd asks.2;
-      unbuilt = λ is files told.
-          let of = all.next (search rules) (λ line word e. cc) files told in
-          absurd (kind_not status Unbuilt (λ e. cc) (λ e. cc) (λ e. cc) (finds_kind of.3.model status text of.3.next) is);
-      unbuilt_always = λ files told asks quiet. absurd asks;
       unknown_arc = λ is files told.
           let of = all.next (search rules) (λ line word e. cc) files told in
           absurd (kind_not status UnknownArc (λ e. cc) (λ e. cc) (λ e. cc) (finds_kind of.3.model status text of.3.next) is);
@@ -294,10 +254,6 @@ due (Some (show_curve model arc)) outside status text answers =
           let of = all.next (search rules) (λ line word e. cc) files told in
           absurd (shows_accepted of.3.model (place_of (arc_names of.3.model) arc) status text of.3.next is);
       rejected_always = λ files told asks quiet. absurd asks.2;
-      unbuilt = λ is files told.
-          let of = all.next (search rules) (λ line word e. cc) files told in
-          absurd (shows_built of.3.model (place_of (arc_names of.3.model) arc) status text of.3.next is);
-      unbuilt_always = λ files told asks quiet. absurd asks;
       unknown_arc = λ is files told.
           let of = all.next (search rules) (λ line word e. cc) files told in
           (of.0, of.1, of.2, (of.3.model, of.3.spells, shows_unknown of.3.model (place_of (arc_names of.3.model) arc) status text of.3.next is));
@@ -311,7 +267,7 @@ pub certified : (request : Option Request) (outside : Outside) (status : Status)
     → status ≢ ReadFault → ForSome outside.holds (λ files. (m : Entries) → AsksSolvable files m request → IsWellFormed m × IsCertified m status text)
 certified None outside status text answers read files told m asks = absurd asks
 certified (Some (solve model)) outside status text answers read files told m asks =
-    let all = due_of_model model [] SolvesModel outside status text (solves_answer outside) answers in (
+    let all = due_of_model model [] IsCertified outside status text (solves_answer outside) answers in (
       spelled_is_formed asks.0 m asks.3.0,
       points_certified m status text (all.next_always files told m (asks.0, asks.1, asks.2, asks.3.0) read) asks.3.1,
     )

@@ -27,11 +27,24 @@ use Rattle.mono_top.specs.declared.status.Status.TheVariants.{Cut, Circuit, Done
 one_is_one : 1 ≤ 1
 one_is_one = omega arith
 
--- the cut is the kind that refuses flow
-kind_is : (net : Network) (c : Certificate) (status : Status) → Says net c → status ≡ status_of c → (status ≡ Cut) ↔ FlowIsRefused net
-kind_is net (optimal x u cost value) status says is = (λ e. absurd cc, λ none. absurd (none 1 x one_is_one says.flow))
-kind_is net (cut side capacity) status says is = (λ e. says, λ none. is)
-kind_is net (circuit x walk span) status says is = (λ e. absurd cc, λ none. absurd (none 1 x one_is_one says.flow))
+-- the cut is the kind that refuses flow, the circuit the kind that has a flow and refuses tension
+record IsKindOf (net : Network) (status : Status) : Type 0 where
+  cut_is : (status ≡ Cut) ↔ FlowIsRefused net
+  circuit_is : (status ≡ Circuit) ↔ ((¬ FlowIsRefused net) × TensionIsRefused net)
+
+kind_is : (net : Network) (c : Certificate) (status : Status) → Says net c → status ≡ status_of c → IsKindOf net status
+kind_is net (optimal x u cost value) status says is = record {
+  cut_is = (λ e. absurd cc, λ none. absurd (none 1 x one_is_one says.flow));
+  circuit_is = (λ e. absurd cc, λ both. absurd (both.1 1 u one_is_one says.potential));
+}
+kind_is net (cut side capacity) status says is = record {
+  cut_is = (λ e. says, λ none. is);
+  circuit_is = (λ e. absurd cc, λ both. absurd (both.0 says));
+}
+kind_is net (circuit x walk span) status says is = record {
+  cut_is = (λ e. absurd cc, λ none. absurd (none 1 x one_is_one says.flow));
+  circuit_is = (λ e. (λ none. none 1 x one_is_one says.flow, says.no_potential), λ both. is);
+}
 
 pub concludes : (m : Entries) (status : Status) (text : List ℕ) (old new : Option (List ℕ)) → IsWellFormed m → IsCertified m status text → Grew old new text
     → Concludes m status old new
@@ -42,7 +55,8 @@ concludes m status text old new formed certified grew =
       certified = certified;
       written = grew;
       says = says;
-      flow_refused = kind_is (grounded m) certified.certificate status says certified.kind;
+      flow_refused = (kind_is (grounded m) certified.certificate status says certified.kind).cut_is;
+      tension_refused = (kind_is (grounded m) certified.certificate status says certified.kind).circuit_is;
     }
 
 pub concludes_check : (m : Entries) (bytes : List ℕ) (status : Status) → IsWellFormed m → IsJudged m bytes status → ConcludesCheck m bytes status

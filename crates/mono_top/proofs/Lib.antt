@@ -3,4 +3,3 @@ pub mod ModelFileLemmas
 pub mod FeasibleParts
 pub mod DueLemmas
 pub mod HeadlineLemmas
-pub mod ForcedFlow

@@ -12,7 +12,7 @@ use Rattle.mono_top.specs.OfModel.{OfModel}
 use Rattle.mono_top.specs.Checks.{ChecksText}
 use Rattle.mono_top.specs.ShowsCurve.{ShowsCurve}
 use Rattle.mono_top.specs.FindsFeasible.{FindsFeasible}
-use Rattle.mono_top.specs.Solves.{SolvesModel}
+use Rattle.mono_top.specs.Solves.{IsCertified}
 use Rattle.mono_top.specs.declared.lines.Place.{Place}
 use Rattle.mono_top.specs.declared.lines.Place.TheVariants.{First, Second}
 use Rattle.mono_top.specs.declared.status.Status.{Status}
@@ -49,7 +49,7 @@ ChecksFile certificate outside m status text = ReadsThen Second certificate (Che
 -- the order of the refusals is the order of the readings
 abbrev pub Answers : Option Request → Outside → Status → List ℕ → Type 0
 Answers None outside status text = (status ≡ Usage) × (text ≡ usage_line)
-Answers (Some (solve model)) outside status text = ReadsThen First model (OfModel SolvesModel) outside status text
+Answers (Some (solve model)) outside status text = ReadsThen First model (OfModel IsCertified) outside status text
 Answers (Some (check model certificate)) outside status text =
     ReadsThen First model (OfModel (ChecksFile certificate outside)) outside status text
 Answers (Some (feasible model)) outside status text = ReadsThen First model (OfModel FindsFeasible) outside status text

@@ -7,7 +7,6 @@ use Rattle.theory.specs.Grounded.{Entries}
 use Rattle.model_text.specs.declared.fault.FaultWord.{FaultWord}
 use Rattle.model_text.specs.Model.{place_of, arc_names}
 use Rattle.model_text.specs.ModelText.{Spells, IsFirstFault}
-use Rattle.mono_top.specs.Solves.{AreAllPoints}
 use Rattle.mono_top.specs.Checks.{IsValidText}
 use Rattle.mono_top.specs.declared.status.Status.{Status}
 use Rattle.mono_top.specs.declared.status.Status.TheVariants.{Usage, Missing, ReadFault, WriteFault, TooLong}
@@ -20,21 +19,13 @@ AsksFaulty files line word (Some (check model certificate)) = IsFileWith files m
 AsksFaulty files line word (Some (feasible model)) = IsFileWith files model (λ text. IsFirstFault text line word)
 AsksFaulty files line word (Some (show_curve model arc)) = IsFileWith files model (λ text. IsFirstFault text line word)
 
--- `solve` was asked for: the text spells this model, and every curve of it is a single point
+-- `solve` was asked for: the text spells this model
 abbrev pub AsksSolvable : Files → Entries → Option Request → Type 0
 AsksSolvable files m None = ⊥
-AsksSolvable files m (Some (solve model)) = IsFileWith files model (λ text. Spells text m × AreAllPoints m)
+AsksSolvable files m (Some (solve model)) = IsFileWith files model (λ text. Spells text m)
 AsksSolvable files m (Some (check model certificate)) = ⊥
 AsksSolvable files m (Some (feasible model)) = ⊥
 AsksSolvable files m (Some (show_curve model arc)) = ⊥
-
--- `solve` was asked for: the text spells a model that has no answer yet
-abbrev pub AsksUnbuilt : Files → Option Request → Type 0
-AsksUnbuilt files None = ⊥
-AsksUnbuilt files (Some (solve model)) = IsFileWith files model (λ text. (m : Entries) × Spells text m × ¬ AreAllPoints m)
-AsksUnbuilt files (Some (check model certificate)) = ⊥
-AsksUnbuilt files (Some (feasible model)) = ⊥
-AsksUnbuilt files (Some (show_curve model arc)) = ⊥
 
 -- `check` was asked for: the first file's text spells this model, and the second file has this text, whatever it is
 abbrev pub AsksToCheck : Files → Entries → List ℕ → Option Request → Type 0

@@ -1,4 +1,4 @@
--- How often a call reads curves: within the bound of its model's grounded network where it looks for flows and potentials,
+-- How often a call reads curves: within the bound of its model's grounded network where it solves or looks for feasible flows and potentials,
 -- and else not at all.
 use Rattle.std.specs.Prelude.{◌≡◌, ℕ, ◌+◌, ◌≤◌, List, length, Option, Some, None}
 use Rattle.std.specs.Option.{ForSome}
@@ -20,7 +20,7 @@ pub record ReadsWithin (model : List ℕ) (holds : Option Files) (before now : �
 
 abbrev pub CountsReadings : Option Request → Option Files → ℕ → ℕ → Type 0
 CountsReadings None holds before now = now ≡ before
-CountsReadings (Some (solve model)) holds before now = now ≡ before
+CountsReadings (Some (solve model)) holds before now = ReadsWithin model holds before now
 CountsReadings (Some (check model certificate)) holds before now = now ≡ before
 CountsReadings (Some (feasible model)) holds before now = ReadsWithin model holds before now
 CountsReadings (Some (show_curve model arc)) holds before now = now ≡ before

@@ -3,11 +3,11 @@ use Rattle.std.specs.Prelude.{◌≡◌, ◌≢◌, ℕ, List, Option, None}
 use Rattle.std.specs.Option.{ForSome}
 use Rattle.model_text.specs.declared.fault.FaultWord.{FaultWord}
 use Rattle.mono_top.specs.Answer.{Outside}
-use Rattle.mono_top.specs.Causes.{AsksFaulty, AsksInvalid, AsksUnbuilt, AsksUnknownArc}
+use Rattle.mono_top.specs.Causes.{AsksFaulty, AsksInvalid, AsksUnknownArc}
 use Rattle.mono_top.specs.Reading.{AllReadable, ReachesMissing, ReachesPastMost, ReachesTooLong}
 use Rattle.mono_top.specs.Request.{Request, files_of}
 use Rattle.mono_top.specs.declared.status.Status.{Status}
-use Rattle.mono_top.specs.declared.status.Status.TheVariants.{Rejected, Usage, ModelRefused, Missing, ReadFault, WriteFault, NoMemory, TooLong, UnknownArc, Unbuilt}
+use Rattle.mono_top.specs.declared.status.Status.TheVariants.{Rejected, Usage, ModelRefused, Missing, ReadFault, WriteFault, NoMemory, TooLong, UnknownArc}
 
 -- of the files that were to be read, in this order
 pub record IsDueOfFiles (names : List (List ℕ)) (outside : Outside) (status : Status) : Type 0 where
@@ -28,7 +28,5 @@ pub record IsDue (request : Option Request) (outside : Outside) (status : Status
   pub refused_always : ForSome outside.holds (λ files. (line : ℕ) (word : FaultWord) → AsksFaulty files line word request → ¬ outside.faulted → status ≡ ModelRefused line word)
   pub rejected : status ≡ Rejected → ForSome outside.holds (λ files. AsksInvalid files request)
   pub rejected_always : ForSome outside.holds (λ files. AsksInvalid files request → ¬ outside.faulted → status ≡ Rejected)
-  pub unbuilt : status ≡ Unbuilt → ForSome outside.holds (λ files. AsksUnbuilt files request)
-  pub unbuilt_always : ForSome outside.holds (λ files. AsksUnbuilt files request → ¬ outside.faulted → status ≡ Unbuilt)
   pub unknown_arc : status ≡ UnknownArc → ForSome outside.holds (λ files. AsksUnknownArc files request)
   pub unknown_arc_always : ForSome outside.holds (λ files. AsksUnknownArc files request → ¬ outside.faulted → status ≡ UnknownArc)

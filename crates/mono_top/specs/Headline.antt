@@ -19,6 +19,7 @@ pub record Concludes (m : Entries) (status : Status) (old new : Option (List ℕ
   pub written : Grew old new text
   pub says : Says (grounded m) certified.certificate
   pub flow_refused : (status ≡ Cut) ↔ FlowIsRefused (grounded m)
+  pub tension_refused : (status ≡ Circuit) ↔ ((¬ FlowIsRefused (grounded m)) × TensionIsRefused (grounded m))
 
 -- What a call to `check` concludes of a model and a text: it is accepted exactly where it is the text of a valid
 -- certificate, and then what the certificate says is true.

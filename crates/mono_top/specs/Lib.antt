@@ -7,7 +7,6 @@ pub mod Due
 pub mod Ending
 pub mod Fetch
 pub mod FindsFeasible
-pub mod Forced
 pub mod Headline
 pub mod Lines
 pub mod OfModel

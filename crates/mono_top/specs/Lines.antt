@@ -9,9 +9,6 @@ use Rattle.mono_top.specs.declared.lines.Place.TheVariants.{First, Second}
 abbrev pub usage_line : List ℕ
 usage_line = codes "usage: monotropic COMMAND WORDS\n"
 
-abbrev pub unbuilt_line : List ℕ
-unbuilt_line = codes "unbuilt\n"
-
 abbrev pub unknown_arc_line : List ℕ
 unknown_arc_line = codes "unknown arc\n"
 

@@ -37,7 +37,7 @@ pub(crate) fn reply_to<S: Shelf, L: Ledger>(
     ensures faults { Counts (S.faults shelf.old) (S.faults shelf.new) }
 {
     match command_of(words) {
-        Some(Command::Solve { model }) => Ok(solve(alloc, shelf, model)?),
+        Some(Command::Solve { model }) => Ok(solve(alloc, shelf, model, steps)?),
         Some(Command::Check { model, certificate }) => Ok(check(alloc, shelf, model, certificate)?),
         Some(Command::Feasible { model }) => Ok(feasible(alloc, shelf, model, steps)?),
         Some(Command::Curve { model, arc }) => Ok(show_curve(alloc, shelf, model, arc)?),

@@ -6,7 +6,6 @@ mod check;
 mod command;
 mod feasible;
 mod fetch;
-mod forced;
 mod lines;
 mod reply;
 mod show_curve;

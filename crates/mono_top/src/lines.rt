@@ -1,6 +1,6 @@
 // The lines that refuse.
 ghost use Rattle.std.specs.Prelude.{◌≡◌, IfOk};
-ghost use Rattle.mono_top.specs.Lines.{usage_line, unbuilt_line, unknown_arc_line, missing_line, read_fault_line, too_long_line, word_of, model_line};
+ghost use Rattle.mono_top.specs.Lines.{usage_line, unknown_arc_line, missing_line, read_fault_line, too_long_line, word_of, model_line};
 
 use itoa::Buffer;
 use model_text::FaultWord;
@@ -18,12 +18,6 @@ pub(crate) fn usage() -> &'static [u8]
     ensures { result.now ≡ usage_line }
 {
     b"usage: monotropic COMMAND WORDS\n"
-}
-
-pub(crate) fn unbuilt() -> &'static [u8]
-    ensures { result.now ≡ unbuilt_line }
-{
-    b"unbuilt\n"
 }
 
 pub(crate) fn unknown_arc() -> &'static [u8]

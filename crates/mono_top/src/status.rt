@@ -20,7 +20,6 @@ pub enum Status {
     NoMemory,
     TooLong,
     UnknownArc,
-    Unbuilt,
 }
 
 impl Status {
@@ -41,7 +40,6 @@ impl Status {
             Status::NoMemory => 9,
             Status::TooLong => 10,
             Status::UnknownArc => 12,
-            Status::Unbuilt => 13,
         }
     }
 }

@@ -5,7 +5,7 @@ ghost use Rattle.theory.specs.Grounded.{Entries};
 ghost use Rattle.model_text.specs.declared.fault.FaultWord.{FaultWord as Fault};
 ghost use Rattle.outside_io.specs.Counts.{Rose, Counts};
 ghost use Rattle.mono_top.specs.Answer.{Answers, outside_of};
-ghost use Rattle.mono_top.specs.Causes.{AsksFaulty, AsksSolvable, AsksToCheck, AsksInvalid, AsksFeasible, AsksUnbuilt, AsksUnknownArc, IsAnswerable, GoesThrough};
+ghost use Rattle.mono_top.specs.Causes.{AsksFaulty, AsksSolvable, AsksToCheck, AsksInvalid, AsksFeasible, AsksUnknownArc, IsAnswerable, GoesThrough};
 ghost use Rattle.mono_top.specs.CountsReadings.{CountsReadings};
 ghost use Rattle.mono_top.specs.Headline.{Concludes, ConcludesCheck, ConcludesFeasible};
 ghost use Rattle.mono_top.specs.Ending.{WritesDue, WritesPart};
@@ -68,10 +68,6 @@ pub fn run<S: Shelf, K: Sink, L: Ledger>(
     ensures rejected_always { ForSome (S.holds shelf.old) (λ files. AsksInvalid files (asked words.now)
         → ¬ Rose (S.faults shelf.old) (S.faults shelf.new)
         → (result ≡ Status.Rejected) ⊎ (result ≡ Status.NoMemory) ⊎ (result ≡ Status.WriteFault)) }
-    ensures unbuilt { result ≡ Status.Unbuilt → ForSome (S.holds shelf.old) (λ files. AsksUnbuilt files (asked words.now)) }
-    ensures unbuilt_always { ForSome (S.holds shelf.old) (λ files. AsksUnbuilt files (asked words.now)
-        → ¬ Rose (S.faults shelf.old) (S.faults shelf.new)
-        → (result ≡ Status.Unbuilt) ⊎ (result ≡ Status.NoMemory) ⊎ (result ≡ Status.WriteFault)) }
     ensures unknown_arc { result ≡ Status.UnknownArc → ForSome (S.holds shelf.old) (λ files. AsksUnknownArc files (asked words.now)) }
     ensures unknown_arc_always { ForSome (S.holds shelf.old) (λ files. AsksUnknownArc files (asked words.now)
         → ¬ Rose (S.faults shelf.old) (S.faults shelf.new)
