@@ -1,4 +1,4 @@
-use Rattle.std.proofs.Common.{◌≡◌, IsTrue, length, sym, ◌∙◌, rules, arith}
+use Rattle.std.proofs.Common.{◌≡◌, IsTrue, length, rules, arith}
 use Rattle.kilter_solver.proofs.Beginning.{zero-feasible, zero-near}
 use Rattle.kilter_solver.proofs.tests.balanced.Goals as goal
 

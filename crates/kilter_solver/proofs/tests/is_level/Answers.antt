@@ -1,7 +1,7 @@
-use Rattle.std.proofs.Common.{ℕ, ◌+◌, ◌<◌, pos, IsTrue, List, length, map, ap, ◌∙◌, subst, below_more, rules, arith}
+use Rattle.std.proofs.Common.{ℕ, ◌<◌, pos, IsTrue, List, length, ap, ◌∙◌, subst, below_more, rules, arith}
 use Rattle.theory.specs.declared.ext.Ext.{Ext}
 use Rattle.theory.specs.Ends.{IsBetween}
-use Rattle.theory.specs.Span.{InSpan, span_low, span_high}
+use Rattle.theory.specs.Span.{InSpan, span_low}
 use Rattle.kilter_solver.proofs.Bundles.{list-of}
 use Rattle.kilter_solver.proofs.tests.is_level.Goals as goal
 
