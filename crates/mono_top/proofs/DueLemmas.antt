@@ -267,10 +267,8 @@ pub certified : (request : Option Request) (outside : Outside) (status : Status)
     → status ≢ ReadFault → ForSome outside.holds (λ files. (m : Entries) → AsksSolvable files m request → IsWellFormed m × IsCertified m status text)
 certified None outside status text answers read files told m asks = absurd asks
 certified (Some (solve model)) outside status text answers read files told m asks =
-    let all = due_of_model model [] IsCertified outside status text (solves_answer outside) answers in (
-      spelled_is_formed asks.0 m asks.3.0,
-      points_certified m status text (all.next_always files told m (asks.0, asks.1, asks.2, asks.3.0) read) asks.3.1,
-    )
+    let all = due_of_model model [] IsCertified outside status text (solves_answer outside) answers in
+    (spelled_is_formed asks.0 m asks.3, all.next_always files told m asks read)
 certified (Some (check model certificate)) outside status text answers read files told m asks = absurd asks
 certified (Some (feasible model)) outside status text answers read files told m asks = absurd asks
 certified (Some (show_curve model arc)) outside status text answers read files told m asks = absurd asks

@@ -13,11 +13,11 @@ pub(crate) const ROUND: &[u8] =
     b"network 1\nnode s\nnode t\narc a s t 0 -3 +inf\narc b t s 0 1 +inf\n";
 
 /// Going round earns nothing.
-const ROUND_FOR_NOTHING: &[u8] =
+pub(crate) const ROUND_FOR_NOTHING: &[u8] =
     b"network 1\nnode s\nnode t\narc a s t 0 2 +inf\narc b t s 0 -2 +inf\n";
 
 /// The arc takes just what the supply brings.
-const FULL: &[u8] = b"network 1\nnode s 3\nnode t -3\narc a s t 0 1 3\n";
+pub(crate) const FULL: &[u8] = b"network 1\nnode s 3\nnode t -3\narc a s t 0 1 3\n";
 
 const WRONG_SUPPLY: &[u8] =
     b"certificate 1 optimal\ncost 13\nvalue 13\nnode s 0 6\nnode t 5 -5\narc a 6\n";

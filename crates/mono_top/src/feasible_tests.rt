@@ -4,7 +4,7 @@ use crate::tests::{EMPTY, ORDINARY, Row, compare, plain};
 use std::test::Fail;
 
 /// The arc a takes 3 of the 5 that the supply brings, and going round over c and d earns 2.
-const BOTH_REFUSED: &[u8] =
+pub(crate) const BOTH_REFUSED: &[u8] =
     b"network 1\nnode s 5\nnode t -5\narc a s t 0 1 3\nnode p\nnode q\narc c p q 0 -3 +inf\narc d q p 0 1 +inf\n";
 
 #[test]

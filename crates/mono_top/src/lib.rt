@@ -23,4 +23,6 @@ mod check_tests;
 #[cfg(test)]
 mod feasible_tests;
 #[cfg(test)]
+mod solve_tests;
+#[cfg(test)]
 mod tests;
