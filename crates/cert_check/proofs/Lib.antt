@@ -2,6 +2,5 @@
 pub mod Nets
 -- Scans of nodes and arcs, and their sums:
 pub mod Scans
-pub mod PartialSums
 -- Verdicts:
 pub mod Verdicts

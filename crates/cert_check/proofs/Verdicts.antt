@@ -5,8 +5,6 @@
 -- A certificate is valid where every test passes. Then accepted is a verdict, and so the only one.
 use Rattle.std.proofs.Common.{◌≡◌, ◌↔◌, ℕ, zero, suc, ◌<◌, inl, inr, List, [], ◌∷◌, Bool, length, refl, sym, ap, ap₂, ◌∙◌, subst, ℤ, pos, ◌≤ℤ◌, ◌<ℤ◌, arith}
 use Rattle.std.proofs.lemmas.Int.{ints}
-use Rattle.std.proofs.lemmas.Bool.{false≢true}
-use Rattle.theory.specs.declared.ext.Ext.{Ext}
 use Rattle.theory.specs.declared.network.Step.{Step}
 use Rattle.theory.specs.First.{IsFirstFailing}
 use Rattle.theory.specs.Sums.{Each}
@@ -20,7 +18,6 @@ use Rattle.theory.specs.Certificate.{Certificate, Fits, IsValid}
 use Rattle.theory.specs.Certificate.Certificate.{optimal, cut, circuit}
 use Rattle.theory.proofs.First.{one_first}
 use Rattle.net_incidence.specs.BadStep.{IsBadStep, IsFirstBadStep, IsFault}
-use Rattle.net_incidence.specs.SumAnswers.{IsFirstEndless}
 use Rattle.net_incidence.proofs.BadSteps.{circuit-no_bad, circuit-closed}
 use Rattle.cert_check.specs.declared.judged.Judged.{Judged}
 use Rattle.cert_check.specs.declared.judged.Judged.TheVariants.{Accepted, NotConserved, OffCurve, OutOfCapacity, NotCircuit, Endless, WrongNumber, NotNegative}
@@ -81,9 +78,6 @@ one_on_each : (verdict : ℕ → Judged) (n : ℕ) (Passes : ℕ → Type 0) (Af
 one_on_each verdict n Passes After =
     one_of_tests (FindsNumber verdict (IsFirstFailing n Passes)) (AllPass n Passes) After
     (number_test verdict (IsFirstFailing n Passes) (AllPass n Passes) (one_first n Passes) (λ k first all. first.fails (all k first.there)))
-
-endless-failing : (n : ℕ) (end : ℕ → Ext) (k : ℕ) → IsFirstEndless n end k → IsFirstFailing n (λ j. IsFinite (end j)) k
-endless-failing n end k first = record { there = first.there; fails = λ finite. false≢true (sym first.endless ∙ finite); before = first.before }
 
 -- the first bad step, or no step is bad and the walk isn't closed
 fault-failing : (net : Network) (walk : List Step) (k : ℕ) → IsFirstBadStep net walk k → IsFirstFailing (length walk) (λ j. ¬ IsBadStep net walk j) k
@@ -181,7 +175,7 @@ one_of_cut net side capacity =
     (one_on_number capacity (cut_sum net side) (OnSign capacity) (one_on_sign capacity))
 
 cut_tests : (net : Network) (side : List Bool) (capacity : ℤ) (v : Judged) → OnCut net side capacity v → CutTests net side capacity v
-cut_tests net side capacity (Endless arc) on = fails (arc.0, refl, endless-failing (length net.arcs) (cut_end net side) arc.0 on)
+cut_tests net side capacity (Endless arc) on = fails (arc.0, refl, on)
 cut_tests net side capacity (WrongNumber stated right) on = passes on.0 (fails (stated, right, refl, on.1))
 cut_tests net side capacity NotNegative on = passes on.0 (passes on.1 (fails (refl, on.2)))
 cut_tests net side capacity Accepted on = passes on.0.counts (passes on.1 (passes (rw on.1 on.0.negative) refl))
@@ -230,7 +224,7 @@ circuit_tests net x walk span (OutOfCapacity arc) on = passes on.0 (fails (arc.0
 circuit_tests net x walk span (NotCircuit number) on = passes on.0.conserved (passes on.0.in_domains (fails (number, refl, on.1)))
 circuit_tests net x walk span (Endless arc) on =
     after_walk net x walk span (Endless arc) on.0 on.1
-    (fails (on.2.0, ap endless on.2.2, endless-failing (length walk) (λ k. span_end net (step walk k)) on.2.0 on.2.1))
+    (fails (on.2.0, ap endless on.2.2, on.2.1))
 circuit_tests net x walk span (WrongNumber stated right) on =
     after_walk net x walk span (WrongNumber stated right) on.0 on.1 (passes (finite_ends net walk on.2) (fails (stated, right, refl, on.3)))
 circuit_tests net x walk span NotNegative on =

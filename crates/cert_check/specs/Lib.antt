@@ -1,6 +1,5 @@
 -- What a verdict says of a certificate:
 pub mod Verdict
 pub mod VerdictLaws
--- In the code: the verdict on a sum, and how far a total has come:
+-- In the code: the verdict on a sum:
 pub mod SumVerdict
-pub mod PartialSum

@@ -6,10 +6,10 @@ ghost use Rattle.cert_check.specs.Verdict.{OnPair, OnCut, OnCircuit, IsVerdict};
 ghost use Rattle.cert_check.specs.SumVerdict.{OnSum};
 
 use crate::judged::Judged;
-use crate::pricing::{total_cost, total_value};
+use crate::pricing::total_value;
 use crate::scan::{first_off_curve, first_out_of_capacity, first_unbalanced};
 use cert_text::Certificate;
-use ground_net::Grounded;
+use ground_net::{Grounded, total_cost};
 use net_incidence::{Step, Sum};
 
 /// Tests the certificate from its parts alone, whoever made it. It takes no memory. Beside `is_circuit` it costs a fixed

@@ -1,30 +1,15 @@
-// The cost of a flow and the value of a potential.
+// The value of a potential.
 ghost use Rattle.std.specs.Prelude.{◌≡◌, ℕ, ◌<◌, length};
 ghost use Rattle.theory.specs.Span.{InSpan};
 ghost use Rattle.theory.specs.Network.{«at», curve};
 ghost use Rattle.theory.specs.Conserved.{tension};
-ghost use Rattle.theory.specs.Totals.{total_cost, total_value};
-ghost use Rattle.theory.specs.Certificate.{AreNumbers, IsPotentialOf};
-ghost use Rattle.cert_check.specs.Verdict.{IsInCapacity};
+ghost use Rattle.theory.specs.Totals.{total_value};
+ghost use Rattle.theory.specs.Certificate.{IsPotentialOf};
 
 use crate::tensions::tension_on;
 use curve_views::dual_at;
 use ground_net::Grounded;
-use mono_curve::cost_at;
 use net_incidence::ArcId;
-
-/// The sum of the costs of the arcs.
-pub(crate) fn total_cost(g: &Grounded, x: &[i64]) -> i128
-    requires flows { AreNumbers (length g.now.network.arcs) x.now }
-    requires inside { (j : ℕ) → j < length g.now.network.arcs → IsInCapacity g.now.network x.now j }
-    ensures { result ≡ total_cost 1 g.now.network («at» x.now) }
-{
-    let mut total = 0i128;
-    for j in 0..g.net().arcs() as u32 {
-        total += cost_at(g.curve(ArcId(j)), x[j as usize]);
-    }
-    total
-}
 
 /// Minus the sum of the conjugate costs of the tensions.
 pub(crate) fn total_value(g: &Grounded, u: &[i64]) -> i128

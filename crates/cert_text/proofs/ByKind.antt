@@ -1,5 +1,8 @@
--- What was read is a candidate, kind by kind. The head says the kind: where the text's own isn't that of another
--- certificate, the two differ in the first line. Else the lines are compared one after the other.
+-- What was read is a candidate, kind by kind: it fits, and no other certificate's text agrees with the given one for longer than
+-- its own does. The head says the kind: where the given text has another head than some certificate, that one differs in the
+-- first line already. Of one kind the lines are compared one after the other. Each line is whole, so the texts agree beyond it
+-- only if the line itself is the same. Where the given line is the other certificate's, the numbers that it ends with are the
+-- other's, and these are the numbers that were read, so it is the candidate's line too, and the comparison goes on behind it.
 use Rattle.std.proofs.Common.{◌≡◌, ◌≢◌, ℕ, zero, suc, ◌+◌, ◌-◌, ◌<◌, ◌≤◌, Bool, List, [], ◌++◌, length, refl, sym, ap, subst, ◌∙◌, arith, append-nil, append_assoc, add-one, add_comm, zero-add, ⊎_elim}
 use Rattle.std.specs.Prelude.{ℤ, codes, Result, Ok, Err, IfOk}
 use Rattle.std.specs.List.{flat_map}

@@ -1,4 +1,8 @@
--- A text has at most one certificate: its head says the kind, and each further line says its part.
+-- A text has at most one certificate. Heads of two kinds differ, so two certificates with one text are of one kind. Then their
+-- texts, without the head, are the same line after line, since each line is whole; so the numbers that a line ends with are the
+-- same in both, and each mark and each step. Lists of one length are the same where they are at each place: of the potentials
+-- the ground's is 0 in both and each other stands in its node's line, of the flows the first stand in the lines of the nodes and
+-- the others in those of the arcs.
 use Rattle.std.proofs.Common.{◌≡◌, ℕ, zero, suc, ◌+◌, ◌-◌, ◌<◌, ◌≤◌, Bool, false, List, [], ◌++◌, length, refl, sym, ap, subst, ◌∙◌, arith, add-one, ⊎_elim}
 use Rattle.std.specs.Prelude.{ℤ, pos, codes}
 use Rattle.std.specs.List.{flat_map}

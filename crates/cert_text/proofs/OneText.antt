@@ -1,5 +1,8 @@
--- A text has at most one certificate, and at most one first bad line. Two texts of whole lines that are the same are the
--- same line by line. A line has one last word, and a printed number one number.
+-- A text has at most one first bad line, and what two certificates of one text share. Were one bad line below another, the lines
+-- before the later one would be right with some certificate, and so the lines up to the earlier one. Two texts that are the same
+-- and begin with whole lines begin with the same line. A line has one last word, and a printed number is that of one number. The
+-- marks of two sides are compared from the last node back: what stands behind begins with no line of the nodes up to this one, so
+-- this node's line stands there in both texts or in neither.
 use Rattle.std.proofs.Common.{◌≡◌, ◌≢◌, ℕ, zero, suc, ◌+◌, ◌-◌, ◌^◌, ◌<◌, ◌≤◌, Bool, true, false, if◌then◌else◌, bytes_eq, List, [], ◌∷◌, ◌++◌, length, get_or, take, refl, sym, ap, subst, ◌∙◌, arith, lit<, append_assoc, ⊎_elim}
 use Rattle.std.specs.Prelude.{ℤ, pos, negsuc, codes}
 use Rattle.std.specs.Char.{is_ascii_digit}

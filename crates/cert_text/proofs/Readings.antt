@@ -1,4 +1,8 @@
--- One line more read.
+-- One line more read. What was read so far is a list with an element for each line: a flow, a pair, a mark or a step. One more
+-- element at the end leaves all earlier places as they were and stands at the place that the count of lines names. So what was
+-- said of the lines before is still so, and of the new one it is so by the test of that line. The second half says the same of
+-- what a loop has in hand: the rest of the text, its first line, and numbers in 64 bits, which are those of the line since a
+-- number within the limits fits.
 use Rattle.std.proofs.Common.{◌≡◌, ℕ, ◌+◌, ◌<◌, Bool, if◌then◌else◌, bytes_eq, List, [], ◌∷◌, ◌++◌, length, get_or, refl, sym, ap, subst, ◌∙◌, arith, below_more, add-one, to_z, of_z}
 use Rattle.std.specs.Int.{w64}
 use Rattle.std.proofs.lemmas.Int.{ints}
@@ -53,9 +57,6 @@ pairs_more text n u x v z read last =
           (subst (λ w. AreLastNumbers (line_at text n) w («at» (x ++ z ∷ []) n)) (sym (at_end u v (pos 0) (n + 1) read.potentials))
           (subst (AreLastNumbers (line_at text n) v) (sym (at_end x z (pos 0) n read.supplies)) last));
     }
-
-pub side_none : (m : Entries) (text : List ℕ) → IsSideRead m text 0 []
-side_none m text = record { one_each = refl; read = λ i none. absurd (omega arith) }
 
 pub side_more : (m : Entries) (text : List ℕ) (n : ℕ) (side : List Bool) (held : Bool) → IsSideRead m text n side
     → held ≡ takes m text n → IsSideRead m text (n + 1) (side ++ held ∷ [])

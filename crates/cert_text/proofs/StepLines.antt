@@ -1,4 +1,8 @@
--- A step's line by its words, and the arc by its name.
+-- A step's line by its words, and the arc by its name. The line is `step` with the sign, the kind of the arc and its name, a
+-- space between each two and LF at the end: an arc below the count of nodes prints as `node` and that node's name, any other as
+-- `arc` and the model arc's name. Kind and name have no space, so what splits off the last word, twice, gives back just these
+-- words. Names of nodes differ, and so do names of arcs: the place where a name is found is the number that it was printed for,
+-- and the kind says in which of the two lists to look. So the words give the arc back, and the sign the direction.
 use Rattle.std.proofs.Common.{◌≡◌, ◌≢◌, ℕ, ◌+◌, ◌-◌, ◌<◌, nat_lt, Bool, true, false, cond, if◌then◌else◌, Option, Some, None, bytes_eq, List, [], ◌∷◌, ◌++◌, length, get_or, refl, sym, ap, subst, ◌∙◌, arith, append-nil, add-one}
 use Rattle.std.specs.Prelude.{codes}
 use Rattle.std.specs.Option.{option_map}

@@ -1,12 +1,6 @@
 -- Texts one after the other, and the names of nodes by their positions.
 use Rattle.std.proofs.Common.{◌≡◌, ℕ, ◌+◌, List, ◌++◌, refl, add-one, append_assoc}
-use Rattle.theory.specs.Grounded.{Entries, node_name}
-use Rattle.model_text.specs.Model.{node_at}
 use Rattle.cert_text.specs.CertificateText.{texts_below}
-
--- the grounded number of model node i is i + 1
-pub model_node_name : (m : Entries) (i : ℕ) → node_name m (i + 1) ≡ (node_at m i).name
-model_node_name m i = rw add-one refl
 
 pub texts_next : (i : ℕ) (text : ℕ → List ℕ) → texts_below (i + 1) text ≡ texts_below i text ++ text i
 texts_next i text = rw add-one refl

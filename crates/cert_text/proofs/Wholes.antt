@@ -1,4 +1,8 @@
--- The lines of a certificate: each ends with its only LF, and its words stand at its end.
+-- The lines of a certificate. A line is whole if LF stands at its end and nowhere before. Keywords, names and printed numbers
+-- have no byte as low as LF, so what is printed of them with spaces between is whole. Lines of two nodes differ, since names of
+-- nodes do and none is `*`, as the ground is called. So a text that begins with no line of the nodes up to n still begins with
+-- no line of those below n once node n's mark stands in front of it, whether that mark is a line or nothing. The numbers of a
+-- line stand at its end, each behind a space: what is in front of them is the keyword, the node or the arc.
 use Rattle.std.proofs.Common.{◌≡◌, ◌≢◌, ℕ, zero, suc, ◌+◌, ◌^◌, ◌<◌, nat_lt, Bool, true, false, bytes_eq, List, [], ◌∷◌, ◌++◌, length, refl, sym, ap, subst, ◌∙◌, arith, lit<, append-nil, append_assoc, if◌then◌else◌}
 use Rattle.std.specs.Prelude.{ℤ, codes}
 use Rattle.std.specs.List.{list_all}

@@ -11,10 +11,10 @@ use Rattle.theory.specs.CurveList.{IsCurveList, item, first, last}
 use Rattle.theory.specs.Span.{span_low, span_high}
 use Rattle.theory.specs.Views.{zero_cost_items}
 use Rattle.theory.specs.Readings.{IsUnder, IsOver, AreBoth, IsSlopes, IsRange}
-use Rattle.theory.proofs.Ends.{below_trans}
+use Rattle.theory.proofs.Ends.{below_trans, below_asym}
 use Rattle.theory.proofs.Shape.{Shape, ends, single, long, shape_by_place, place_of_shape}
 use Rattle.theory.proofs.ZeroCost.{below_last}
-use Rattle.mono_curve.proofs.Stairs.{false_unless, below_asym}
+use Rattle.mono_curve.proofs.Stairs.{false_unless}
 use Rattle.mono_curve.proofs.ReadOff.{IsPair, pair_of_curve, curve_of_pair, under_not_above, not_above_under, over_not_below, not_below_over, clash}
 use Rattle.curve_views.specs.ZeroCostReadings.{slope_past, slope_or}
 

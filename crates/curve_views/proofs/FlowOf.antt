@@ -6,22 +6,17 @@ use Rattle.theory.specs.declared.ext.Ext.{Ext}
 use Rattle.theory.specs.declared.ext.Ext.TheVariants.{MinusInf, At, PlusInf}
 use Rattle.theory.specs.Ends.{whole}
 use Rattle.theory.specs.CurveList.{IsCurveList, Listing}
-use Rattle.theory.specs.Domain.{InDomain, rest_point}
-use Rattle.theory.specs.Span.{InSpan, rest_tension}
-use Rattle.theory.specs.Views.{conjugate_items}
+use Rattle.theory.specs.Domain.{InDomain}
+use Rattle.theory.specs.Span.{InSpan}
 use Rattle.theory.specs.Cost.{cost}
 use Rattle.theory.specs.ConjugateCost.{conjugate_cost}
 use Rattle.theory.specs.OnCurve.{IsOnCurve}
 use Rattle.theory.specs.Readings.{IsUnder, IsOver, IsRange}
 use Rattle.theory.specs.Limits.{AreWithin, IsWithin}
-use Rattle.theory.proofs.Rings.{one_times}
-use Rattle.theory.proofs.Shape.{shape_by_place}
 use Rattle.theory.proofs.Pairs.{flow_of_tension}
-use Rattle.theory.proofs.Equality.{equal_on_curve, fenchel_equality, rest_in_domain}
-use Rattle.theory.proofs.ConjugateList.{conjugate-is_list}
-use Rattle.theory.proofs.ConjugateCost.{rest_point-conjugate}
+use Rattle.theory.proofs.Equality.{equal_on_curve, fenchel_equality}
 use Rattle.curve_views.specs.FlowBetween.{flow_between}
-use Rattle.curve_views.proofs.ReadingBounds.{range-within}
+use Rattle.mono_curve.proofs.ReadingBounds.{range-within}
 
 under_it : (low high : Ext) (z : ℤ) → IsUnder low z → IsOver high z → IsUnder low (flow_between low high)
 under_it MinusInf high z under over = tt
@@ -75,12 +70,3 @@ conjugate_cost-equality c x v list in_v in_x =
 
     without_ones : (xv f h : ℤ) → pos 1 *ℤ f +ℤ pos 1 *ℤ h ≡ xv → f +ℤ h ≡ xv
     without_ones xv f h e = omega (arith, ints)
-
--- ---- where the conjugate rests
-
-pub rest_tension-in_span : (items : List Ext) → IsCurveList items → InSpan 1 items (rest_tension items)
-rest_tension-in_span items list =
-    let ends = conjugate-is_list items list in
-    let inside : InDomain 1 (conjugate_items items) (rest_point (conjugate_items items)) =
-    rw (one_times (rest_point (conjugate_items items))) at (rest_in_domain 1 (shape_by_place (conjugate_items items) ends.is_list)) in
-    rw (rest_point-conjugate items list, ends.domain_low, ends.domain_high) at inside

@@ -3,27 +3,14 @@
 -- negated and changed over, is the reading of the reversed list.
 use Rattle.std.proofs.Common.{◌≡◌, ℤ, neg_ℤ, true, false, List, refl, sym, ap, arith}
 use Rattle.std.proofs.lemmas.Int.{ints}
-use Rattle.std.proofs.Math.IntN.{neg_ℤ-neg_ℤ}
 use Rattle.theory.specs.declared.ext.Ext.{Ext}
 use Rattle.theory.specs.declared.ext.Ext.TheVariants.{MinusInf, At, PlusInf}
 use Rattle.theory.specs.Ends.{negated, IsBelow}
 use Rattle.theory.specs.CurveList.{IsCurveList, first, last}
 use Rattle.theory.specs.Span.{span_low, span_high}
-use Rattle.theory.specs.OnCurve.{IsOnCurve}
 use Rattle.theory.specs.Views.{reversed_items}
 use Rattle.theory.specs.Readings.{IsUnder, IsOver, AreBoth, IsSlopes, IsRange}
-use Rattle.theory.proofs.ReversedList.{reversed-is_list, reversed-items_twice}
-use Rattle.theory.proofs.ReversedPairs.{reversed-pair, first-reversed, last-reversed, span_low-reversed, span_high-reversed}
-
--- ---- pairs both ways
-
-pair_from_reversed : (items : List Ext) (x v : ℤ) → IsCurveList items → IsOnCurve 1 (reversed_items items) x v → IsOnCurve 1 items (neg_ℤ x) (neg_ℤ v)
-pair_from_reversed items x v list pair =
-    rw (reversed-items_twice items) at (reversed-pair 1 (reversed_items items) x v (reversed-is_list items list) pair)
-
-pair_to_reversed : (items : List Ext) (x v : ℤ) → IsCurveList items → IsOnCurve 1 items (neg_ℤ x) (neg_ℤ v) → IsOnCurve 1 (reversed_items items) x v
-pair_to_reversed items x v list pair =
-    rw (neg_ℤ-neg_ℤ x, neg_ℤ-neg_ℤ v) at (reversed-pair 1 items (neg_ℤ x) (neg_ℤ v) list pair)
+use Rattle.theory.proofs.ReversedPairs.{pair_from_reversed, pair_to_reversed, first-reversed, last-reversed, span_low-reversed, span_high-reversed}
 
 -- ---- ends of the opposite sign
 

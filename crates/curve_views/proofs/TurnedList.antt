@@ -47,20 +47,6 @@ length_of_shape (long {l = PlusInf} below more) = let h : false ≡ true = below
 pub length-conjugate : (items : List Ext) → IsCurveList items → length (conjugate_items items) ≡ turned_length (last items) (turned_length (first items) (length items))
 length-conjugate items list = length_of_shape (shape_by_place items list)
 
-at_most_longer : (e : Ext) (n : ℕ) → turned_length e n ≤ n + 1
-at_most_longer MinusInf n = omega arith
-at_most_longer (At a) n = omega arith
-at_most_longer PlusInf n = omega arith
-
-pub length-conjugate_most : (items : List Ext) → IsCurveList items → length (conjugate_items items) ≤ length items + 2
-length-conjugate_most items list =
-    let front = at_most_longer (first items) (length items) in
-    let back = at_most_longer (last items) (turned_length (first items) (length items)) in
-    rw (length-conjugate items list) (grown (turned_length (last items) (turned_length (first items) (length items))) (turned_length (first items) (length items)) (length items) back front)
-  where
-    grown : (a b n : ℕ) → a ≤ b + 1 → b ≤ n + 1 → a ≤ n + 2
-    grown a b n h g = omega arith
-
 -- ---- its items
 
 item-turned : (items : List Ext) (i : ℕ) → i < length (turned_back items) → item (turned_back items) i ≡ slice_index_or items i PlusInf
@@ -107,6 +93,3 @@ item-ended items list ended i positive inside =
     let e : i ≡ suc (i - 1) = omega arith in
     subst (λ (k : ℕ). item (conjugate_items items) k ≡ slice_index_or items (i - 1) PlusInf) (sym e)
     (ended_of_shape (shape_by_place items list) ended (i - 1) (omega arith))
-
-pub item-first : (items : List Ext) → IsCurveList items → is_finite (first items) ≡ true → item (conjugate_items items) 0 ≡ MinusInf
-item-first items list ended = first_of_shape (shape_by_place items list) ended

@@ -52,8 +52,8 @@ fn item_or_end<C: Listed>(curve: &C, i: usize) -> Ext
 
 impl<'a, C: Listed> Listed for Conjugate<'a, C> {
     ghost use Rattle.theory.proofs.ConjugateList.{conjugate-is_list};
-    ghost use Rattle.curve_views.specs.ConjugateFacts.{conjugate_within, conjugate_short};
-    ghost use Rattle.curve_views.specs.ListedFacts.{conjugate_twice_base_within};
+    ghost use Rattle.theory.proofs.ViewBounds.{conjugate_within, conjugate_short};
+    ghost use Rattle.theory.proofs.ViewBounds.{conjugate_twice_base_within};
 
     ghost listing = { λ s. conjugate_of (C.listing s.curve.now) };
 
@@ -94,9 +94,9 @@ impl<'a, C: Listed> Listed for Conjugate<'a, C> {
 
 impl<'a, C: Monotone> Monotone for Conjugate<'a, C> {
     ghost use Rattle.theory.proofs.ConjugateList.{conjugate-is_list};
-    ghost use Rattle.mono_curve.specs.ReadingLaws.{slopes_law, range_law, rise_law};
-    ghost use Rattle.mono_curve.specs.ReadingLaws.{tensions_law, flows_law};
-    ghost use Rattle.curve_views.specs.ConjugateFacts.{conjugate_within, conjugate_short};
+    ghost use Rattle.theory.proofs.ReadingLaws.{slopes_law, range_law, rise_law};
+    ghost use Rattle.theory.proofs.ReadingLaws.{tensions_law, flows_law};
+    ghost use Rattle.theory.proofs.ViewBounds.{conjugate_within, conjugate_short};
 
     ghost items = { λ s. conjugate_items (C.items s.curve.now) };
 

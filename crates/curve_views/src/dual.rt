@@ -14,9 +14,9 @@ ghost use Rattle.theory.specs.Limits.{number_most, IsWithin, flow_most};
 ghost use Rattle.mono_curve.specs.Halving.{IsTurn, count_from, is_item_below, is_item_up_to};
 ghost use Rattle.curve_views.specs.FlowBetween.{flow_between};
 
-use crate::ends::precedes;
 use mono_curve::{Listed, cost_at};
 use theory::Ext;
+use theory::pricing::precedes;
 
 /// The conjugate cost at the tension `v`.
 pub fn dual_at<C: Listed>(curve: &C, v: i64) -> i128

@@ -1,6 +1,6 @@
 // Numbers and ends of the opposite sign.
 ghost use Rattle.std.specs.Prelude.{◌≡◌, neg_ℤ};
-ghost use Rattle.theory.specs.Ends.{is_below, negated, whole};
+ghost use Rattle.theory.specs.Ends.{negated, whole};
 ghost use Rattle.theory.specs.Limits.{number_most, arg_most, IsWithin};
 
 use theory::Ext;
@@ -34,11 +34,4 @@ pub fn opposite_ends(low: Ext, high: Ext) -> (Ext, Ext)
     ensures high { result.1 ≡ negated low }
 {
     (opposite_end(high), opposite_end(low))
-}
-
-/// Whether the end is strictly below the other.
-pub fn precedes(end: Ext, other: Ext) -> bool
-    ensures { result ≡ is_below end other }
-{
-    end < other
 }

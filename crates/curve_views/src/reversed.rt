@@ -28,8 +28,8 @@ impl<'a, C> Reversed<'a, C> {
 
 impl<'a, C: Listed> Listed for Reversed<'a, C> {
     ghost use Rattle.theory.proofs.ReversedList.{reversed-is_list};
-    ghost use Rattle.curve_views.specs.ReversedFacts.{reversed_within, reversed_short};
-    ghost use Rattle.curve_views.specs.ListedFacts.{reversed_conjugate_base_within};
+    ghost use Rattle.theory.proofs.ViewBounds.{reversed_within, reversed_short};
+    ghost use Rattle.theory.proofs.ViewBounds.{reversed_conjugate_base_within};
 
     ghost listing = { λ s. reversed_of (C.listing s.curve.now) };
 
@@ -58,9 +58,9 @@ impl<'a, C: Listed> Listed for Reversed<'a, C> {
 
 impl<'a, C: Monotone> Monotone for Reversed<'a, C> {
     ghost use Rattle.theory.proofs.ReversedList.{reversed-is_list};
-    ghost use Rattle.mono_curve.specs.ReadingLaws.{slopes_law, range_law, rise_law};
-    ghost use Rattle.mono_curve.specs.ReadingLaws.{tensions_law, flows_law};
-    ghost use Rattle.curve_views.specs.ReversedFacts.{reversed_within, reversed_short};
+    ghost use Rattle.theory.proofs.ReadingLaws.{slopes_law, range_law, rise_law};
+    ghost use Rattle.theory.proofs.ReadingLaws.{tensions_law, flows_law};
+    ghost use Rattle.theory.proofs.ViewBounds.{reversed_within, reversed_short};
 
     ghost items = { λ s. reversed_items (C.items s.curve.now) };
 

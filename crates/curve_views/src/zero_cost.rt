@@ -5,11 +5,10 @@ ghost use Rattle.theory.specs.Ends.{is_below};
 ghost use Rattle.theory.specs.Views.{zero_cost_items};
 ghost use Rattle.curve_views.specs.ZeroCostReadings.{slope_past, slope_or};
 
-use crate::ends::precedes;
 use mono_curve::{Monotone, Steps};
 use std::sync::ledger::Ledger;
 use theory::Ext;
-use theory::pricing::is_finite_end;
+use theory::pricing::{is_finite_end, precedes};
 
 /// The curve that has the domain of the curve that it borrows, and the cost 0 on it.
 #[derive(Clone, Copy)]
@@ -80,9 +79,9 @@ fn range_by(first: Ext, last: Ext, v: i64) -> (Ext, Ext)
 
 impl<'a, C: Monotone> Monotone for ZeroCost<'a, C> {
     ghost use Rattle.theory.proofs.ZeroCost.{zero_cost-is_list};
-    ghost use Rattle.mono_curve.specs.ReadingLaws.{slopes_law, range_law, rise_law};
-    ghost use Rattle.mono_curve.specs.ReadingLaws.{tensions_law, flows_law};
-    ghost use Rattle.curve_views.specs.ZeroCostFacts.{zero_cost_within, zero_cost_short};
+    ghost use Rattle.theory.proofs.ReadingLaws.{slopes_law, range_law, rise_law};
+    ghost use Rattle.theory.proofs.ReadingLaws.{tensions_law, flows_law};
+    ghost use Rattle.theory.proofs.ViewBounds.{zero_cost_within, zero_cost_short};
 
     ghost items = { λ s. zero_cost_items (C.items s.curve.now) };
 

@@ -4,8 +4,8 @@ pub mod OneArc
 -- All arcs:
 pub mod Lists
 pub mod Sending
-pub mod Closing
-pub mod Rounds
-pub mod CutSum
+pub mod PathClosesCircuit
+pub mod ViolationFalls
+pub mod CutIsNegative
 -- What it costs:
 pub mod Spent

@@ -12,9 +12,10 @@ use Rattle.theory.specs.CurveList.{first, last, IsCurveList}
 use Rattle.theory.specs.Domain.{InDomain}
 use Rattle.theory.specs.Painting.{IsFree}
 use Rattle.theory.specs.Limits.{IsWithin, number_most, AreWithin}
-use Rattle.theory.proofs.Unbounded.{sends}
+use Rattle.theory.specs.Sent.{sends}
 use Rattle.feasible_flow.specs.Painting.{shade, domain_colour}
-use Rattle.feasible_flow.specs.Violations.{positive_part, missing, surplus, violation, needed, HasRoom, distance}
+use Rattle.feasible_flow.specs.Violations.{missing, surplus, violation, needed, HasRoom, distance}
+use Rattle.theory.specs.Sums.{positive_part}
 use Rattle.feasible_flow.proofs.DomainEnds.{AreEnds, both, from_a_point, to_a_point, everywhere, list-ends, first-within, last-within}
 
 pub positive_part-is : (z : ℤ) → pos (positive_part z) ≡ int_max z (pos 0)
@@ -159,23 +160,6 @@ pub free-room : (items : List Ext) (x : ℤ) (forward : Bool) (t : ℕ) → IsFr
     → t ≤ distance (if forward then last items else first items) x → HasRoom items x forward t
 free-room items x true t free most = distance-above (last items) x t (shade-free _ _ true free) most
 free-room items x false t free most = distance-below (first items) x t (shade-free _ _ false free) most
-
-distance-some_above : (e : Ext) (x : ℤ) → is_below (At x) e ≡ true → 1 ≤ distance e x
-distance-some_above MinusInf x below = let f : false ≡ true = below in cc
-distance-some_above (At b) x below =
-    let p = positive_part-is (x -ℤ b) in let q = positive_part-is (b -ℤ x) in omega (arith, ints, clamps)
-distance-some_above PlusInf x below = omega arith
-
-distance-some_below : (e : Ext) (x : ℤ) → is_below e (At x) ≡ true → 1 ≤ distance e x
-distance-some_below MinusInf x below = omega arith
-distance-some_below (At b) x below =
-    let p = positive_part-is (x -ℤ b) in let q = positive_part-is (b -ℤ x) in omega (arith, ints, clamps)
-distance-some_below PlusInf x below = let f : false ≡ true = below in cc
-
-pub free-some : (items : List Ext) (x : ℤ) (forward : Bool) → IsFree (domain_colour items x) forward
-    → 1 ≤ distance (if forward then last items else first items) x
-free-some items x true free = distance-some_above (last items) x (shade-free _ _ true free)
-free-some items x false free = distance-some_below (first items) x (shade-free _ _ false free)
 
 -- ---- a lacking flow is not free the other way
 

@@ -15,7 +15,8 @@ use Rattle.theory.specs.Conserved.{divergence}
 use Rattle.theory.specs.Circuit.{step, WalkIsThere, span_end}
 use Rattle.theory.proofs.Shape.{place_of_shape, long, ends}
 use Rattle.theory.proofs.Bounds.{within_more, within_sum, within_fits64}
-use Rattle.theory.proofs.Unbounded.{sends, sent, sent_round, brought, is_sent_round}
+use Rattle.theory.proofs.Unbounded.{brought, is_sent_round}
+use Rattle.theory.specs.Sent.{sends, sent, sent_round}
 use Rattle.net_incidence.specs.Graph.{Graph, bare, network}
 use Rattle.net_incidence.proofs.Networks.{net_is_network}
 use Rattle.net_incidence.proofs.SumParts.{each-places}

@@ -1,17 +1,13 @@
 -- The painting by domains: an arc may be passed forward where its flow is below the upper end of its domain, and backward
 -- where it is above the lower end.
-use Rattle.std.specs.Prelude.{ℕ, ℤ, pos, Bool, true, false, List, [], ◌∷◌, slice_index_or}
+use Rattle.std.specs.Prelude.{ℕ, ℤ, Bool, true, false, List}
 use Rattle.theory.specs.declared.ext.Ext.{Ext}
 use Rattle.theory.specs.declared.ext.Ext.TheVariants.{At}
 use Rattle.theory.specs.declared.colour.Colour.{Colour}
 use Rattle.theory.specs.declared.colour.Colour.TheVariants.{Green, White, Black, Red}
 use Rattle.theory.specs.Ends.{is_below}
 use Rattle.theory.specs.CurveList.{first, last}
-use Rattle.theory.specs.Network.{«at»}
-
--- the items of arc j
-abbrev pub list_at : List (List Ext) → ℕ → List Ext
-list_at lists j = slice_index_or lists j (At (pos 0) ∷ [])
+use Rattle.theory.specs.Network.{«at», list_at}
 
 -- by whether an arc is free forward, and backward
 abbrev pub shade : Bool → Bool → Colour

@@ -2,12 +2,11 @@
 use Rattle.std.specs.Prelude.{◌≡◌, ℕ, ◌+◌, ◌*◌, ◌≤◌, ◌<◌, ℤ, pos, ◌+ℤ◌, ◌≤ℤ◌, List, length}
 use Rattle.theory.specs.declared.ext.Ext.{Ext}
 use Rattle.theory.specs.declared.network.Step.{Step}
-use Rattle.theory.specs.Network.{«at»}
+use Rattle.theory.specs.Network.{«at», list_at}
 use Rattle.theory.specs.Conserved.{IsConserved}
 use Rattle.theory.specs.Circuit.{step}
 use Rattle.net_incidence.specs.Graph.{Graph, bare}
 use Rattle.painted_search.specs.Room.{Room}
-use Rattle.feasible_flow.specs.Painting.{list_at}
 use Rattle.feasible_flow.specs.Violations.{violation_at, total_violation, violation_most, HasRoom}
 
 pub record IsUnderWay (g : Graph) (lists : List (List Ext)) (x : List ℤ) : Type 0 where

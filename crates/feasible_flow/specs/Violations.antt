@@ -1,20 +1,14 @@
 -- Violations: how far flows are from the domains of their arcs.
-use Rattle.std.specs.Prelude.{◌≡◌, ℕ, ◌+◌, ◌*◌, ◌-◌, ◌^◌, ◌≤◌, ℤ, pos, negsuc, ◌+ℤ◌, ◌-ℤ◌, neg_ℤ, Bool, true, false, Option, Some, None, List}
+use Rattle.std.specs.Prelude.{◌≡◌, ℕ, ◌+◌, ◌*◌, ◌-◌, ◌^◌, ◌≤◌, ℤ, pos, ◌+ℤ◌, ◌-ℤ◌, neg_ℤ, Bool, true, false, Option, Some, None, List}
 use Rattle.theory.specs.declared.ext.Ext.{Ext}
 use Rattle.theory.specs.declared.ext.Ext.TheVariants.{MinusInf, At, PlusInf}
+use Rattle.theory.specs.Sums.{positive_part, total_below}
 use Rattle.theory.specs.Ends.{IsAtLeast, IsAtMost}
 use Rattle.theory.specs.CurveList.{first, last}
 use Rattle.theory.specs.Limits.{number_most, IsWithin}
-use Rattle.theory.specs.Network.{«at»}
+use Rattle.theory.specs.Network.{«at», list_at}
 use Rattle.painted_search.specs.Room.{count_most}
-use Rattle.painted_search.proofs.Counting.{total_below}
 use Rattle.feasible_flow.specs.declared.domains.Need.{Need}
-use Rattle.feasible_flow.specs.Painting.{list_at}
-
--- the number, or 0 where it is negative
-abbrev pub positive_part : ℤ → ℕ
-positive_part (pos n) = n
-positive_part (negsuc n) = 0
 
 -- how far a flow is below the lower end, and above the upper end
 abbrev pub missing : Ext → ℤ → ℕ

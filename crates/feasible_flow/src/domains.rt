@@ -7,7 +7,8 @@ ghost use Rattle.theory.specs.Limits.{number_most, IsWithin};
 ghost use Rattle.theory.specs.Network.{«at»};
 ghost use Rattle.theory.specs.Circuit.{step};
 ghost use Rattle.painted_search.specs.Path.{IsFreeStep, AllFree};
-ghost use Rattle.feasible_flow.specs.Painting.{list_at, shade, painting};
+ghost use Rattle.feasible_flow.specs.Painting.{shade, painting};
+ghost use Rattle.theory.specs.Network.{list_at};
 ghost use Rattle.feasible_flow.specs.Violations.{missing, surplus, distance, near_most, IsNeedOf, HasRoom, AreNear};
 ghost use Rattle.feasible_flow.specs.UnderWay.{AllHaveRoom};
 
@@ -151,7 +152,7 @@ fn is_below(end: Ext, other: Ext) -> bool
 }
 
 /// How far the flow is below the lower end.
-fn missing(end: Ext, flow: i64) -> u64
+pub(crate) fn missing(end: Ext, flow: i64) -> u64
     requires end_within { IsWithin number_most (whole end) }
     requires flow_near { IsWithin near_most flow }
     ensures { result ≡ missing end flow }
@@ -163,7 +164,7 @@ fn missing(end: Ext, flow: i64) -> u64
 }
 
 /// How far the flow is above the upper end.
-fn surplus(end: Ext, flow: i64) -> u64
+pub(crate) fn surplus(end: Ext, flow: i64) -> u64
     requires end_within { IsWithin number_most (whole end) }
     requires flow_near { IsWithin near_most flow }
     ensures { result ≡ surplus end flow }

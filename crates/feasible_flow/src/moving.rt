@@ -3,7 +3,7 @@ ghost use Rattle.std.specs.Prelude.{◌≡◌, ℕ, ◌*◌, ◌^◌, ◌<◌, �
 ghost use Rattle.std.specs.Int.{w64};
 ghost use Rattle.theory.specs.Network.{«at»};
 ghost use Rattle.theory.specs.Circuit.{step as step_of};
-ghost use Rattle.theory.proofs.Unbounded.{sends, sent, sent_round};
+ghost use Rattle.theory.specs.Sent.{sends, sent, sent_round};
 ghost use Rattle.painted_search.specs.Writes.{with_flow};
 ghost use Rattle.feasible_flow.specs.Violations.{near_most, AreNear};
 ghost use Rattle.feasible_flow.specs.UnderWay.{IsSameButFlows};

@@ -4,8 +4,8 @@ ghost use Rattle.std.specs.List.{All};
 ghost use Rattle.theory.specs.Network.{«at»};
 ghost use Rattle.theory.specs.Cut.{IsNegativeCut};
 ghost use Rattle.painted_search.specs.Fits.{Fits};
-ghost use Rattle.painted_search.specs.Unpriced.{IsPassable, unpriced};
-ghost use Rattle.feasible_flow.specs.Painting.{list_at};
+ghost use Rattle.net_incidence.specs.WithoutBases.{IsPassable, without_bases};
+ghost use Rattle.theory.specs.Network.{list_at};
 ghost use Rattle.feasible_flow.specs.Violations.{violation_at, IsNeed};
 ghost use Rattle.feasible_flow.specs.UnderWay.{IsUnderWay, AreNoFurther, IsNearer, round_cost, readings_left};
 
@@ -31,7 +31,7 @@ impl<'a, C: Monotone> Domains<'a, C> {
         requires fits { Fits net.now work.old }
         requires under_way { IsUnderWay net.now (map C.items self.now.curves.now) work.old.flows }
         ensures settled { result ≡ true → violation_at (map C.items self.now.curves.now) work.new.flows arc.0 ≡ 0 }
-        ensures cut { result ≡ false → IsNegativeCut (unpriced net.now (map C.items self.now.curves.now)) work.new.reached }
+        ensures cut { result ≡ false → IsNegativeCut (without_bases net.now (map C.items self.now.curves.now)) work.new.reached }
         ensures under_way { IsUnderWay net.now (map C.items self.now.curves.now) work.new.flows }
         ensures no_further { AreNoFurther (map C.items self.now.curves.now) work.old.flows work.new.flows }
         ensures potentials { work.new.potentials ≡ work.old.potentials }
@@ -65,7 +65,7 @@ impl<'a, C: Monotone> Domains<'a, C> {
         requires under_way { IsUnderWay net.now (map C.items self.now.curves.now) work.old.flows }
         requires need { IsNeed (list_at (map C.items self.now.curves.now) need.step.arc.0) («at» work.old.flows need.step.arc.0)
             need.step.forward need.amount }
-        ensures cut { result ≡ false → IsNegativeCut (unpriced net.now (map C.items self.now.curves.now)) work.new.reached }
+        ensures cut { result ≡ false → IsNegativeCut (without_bases net.now (map C.items self.now.curves.now)) work.new.reached }
         ensures still { result ≡ false → work.new.flows ≡ work.old.flows }
         ensures nearer { result ≡ true → IsNearer net.now (map C.items self.now.curves.now) work.old.flows work.new.flows }
         ensures potentials { work.new.potentials ≡ work.old.potentials }

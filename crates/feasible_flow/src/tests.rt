@@ -4,7 +4,7 @@ ghost use Rattle.std.specs.Prelude.{◌≡◌, ◌<◌};
 use crate::{FlowAns, feasible_flow};
 use mono_curve::Ext::{self, At, MinusInf, PlusInf};
 use mono_curve::{Curve, Steps};
-use net_incidence::{Net, NodeId};
+use net_incidence::{ArcId, Net, NodeId};
 use painted_search::Work;
 use std::marker::Brand;
 use std::process::Abort;
@@ -44,11 +44,12 @@ fn curves_of(rt: &impl AllocGlobal, rows: &[Row]) -> Result<Vec<Curve>, Fail> {
     Ok(curves)
 }
 
-/// What the pass found, and the room after it.
+/// What the pass found, and the room after it; it begins in a room with these flows, and 0 where there are no more.
 fn passed<L: Ledger>(
     rt: &(impl Abort + AllocGlobal),
     nodes: u32,
     rows: &[Row],
+    drawn: &[i64],
     blank: Blank,
 ) -> Result<(FlowAns, Work), Fail>
     requires name { blank.name ≡ L.name }
@@ -61,6 +62,11 @@ fn passed<L: Ledger>(
     let (nodes, arcs) = (net.nodes(), net.arcs());
     assert!(rt; 1 <= nodes && nodes <= 9 && arcs <= 9 && curves.len() == arcs);
     let mut work = Work::take(rt.alloc(), nodes, arcs)?;
+    for j in 0..drawn.len() {
+        assert!(rt; j < work.arcs());
+        work.set_flow(ArcId(j as u32), drawn[j]);
+    }
+    assert!(rt; work.nodes() == nodes && work.arcs() == arcs);
     let answer = feasible_flow(&net, curves.as_slice(), &mut work, &mut steps);
     Ok((answer, work))
 }
@@ -117,9 +123,46 @@ fn finds_flows(rt: HostRuntime) -> Result<(), Fail> {
             [4, 3, 1, 1].as_slice(),
         ),
     ] {
-        let (answer, work) = passed::<Brand>(&rt, nodes, rows, Blank::new(1))?;
+        let (answer, work) = passed::<Brand>(&rt, nodes, rows, &[], Blank::new(1))?;
         assert_eq!(rt; answer, FlowAns::Flow, "for {rows:?}");
         assert_eq!(rt; work.flows(), flows, "for {rows:?}");
+    }
+    Ok(())
+}
+
+// A ring of three arcs with room for 5 each, and from 0 on the flow of 0 is the one that is found.
+#[test]
+fn begins_with_flows_that_will_do(rt: HostRuntime) -> Result<(), Fail> {
+    let small = [
+        (0, 1, At(0), At(5)),
+        (1, 2, At(0), At(5)),
+        (2, 0, At(0), At(5)),
+    ];
+    let endless = [
+        (0, 1, At(0), PlusInf),
+        (1, 2, At(0), PlusInf),
+        (2, 0, At(0), PlusInf),
+    ];
+    for (rows, drawn, flows) in [
+        // Feasible flows stay, and flows outside their domains come in from where they are.
+        (&small, [3, 3, 3], [3, 3, 3]),
+        (&small, [7, 7, 7], [5, 5, 5]),
+        // What isn't conserved is thrown away.
+        (&small, [3, 3, 2], [0, 0, 0]),
+        // The limit of three arcs is 3,000,000 for the greatest flow and all that the flows lack together.
+        (
+            &endless,
+            [3_000_000, 3_000_000, 3_000_000],
+            [3_000_000, 3_000_000, 3_000_000],
+        ),
+        (&endless, [3_000_001, 3_000_001, 3_000_001], [0, 0, 0]),
+        (&small, [750_003, 750_003, 750_003], [5, 5, 5]),
+        (&small, [750_004, 750_004, 750_004], [0, 0, 0]),
+        (&endless, [i64::MIN, i64::MIN, i64::MIN], [0, 0, 0]),
+    ] {
+        let (answer, work) = passed::<Brand>(&rt, 3, rows.as_slice(), &drawn, Blank::new(1))?;
+        assert_eq!(rt; answer, FlowAns::Flow, "for {drawn:?}");
+        assert_eq!(rt; work.flows(), flows.as_slice(), "for {drawn:?}");
     }
     Ok(())
 }
@@ -146,7 +189,7 @@ fn finds_cuts(rt: HostRuntime) -> Result<(), Fail> {
             [false, true, true].as_slice(),
         ),
     ] {
-        let (answer, work) = passed::<Brand>(&rt, nodes, rows, Blank::new(1))?;
+        let (answer, work) = passed::<Brand>(&rt, nodes, rows, &[], Blank::new(1))?;
         assert_eq!(rt; answer, FlowAns::Cut, "for {rows:?}");
         assert_eq!(rt; work.marks(), marks, "for {rows:?}");
     }

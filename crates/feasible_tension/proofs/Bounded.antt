@@ -6,16 +6,16 @@ use Rattle.theory.specs.declared.ext.Ext.{Ext}
 use Rattle.theory.specs.declared.ext.Ext.TheVariants.{MinusInf, At, PlusInf}
 use Rattle.theory.specs.declared.network.Step.{Step}
 use Rattle.theory.specs.Ends.{IsFinite, is_finite, whole, negated}
-use Rattle.theory.specs.CurveList.{IsCurveList, Listing, item, first, last, before_last}
+use Rattle.theory.specs.CurveList.{IsCurveList, Listing, last, before_last}
 use Rattle.theory.specs.Span.{span_low, span_high}
 use Rattle.theory.specs.Limits.{AreWithin, number_most, IsWithin}
 use Rattle.theory.specs.Network.{Network, tail, head, curve}
 use Rattle.theory.specs.Circuit.{begin_of, end_of, span_end}
 use Rattle.theory.proofs.Shape.{Shape, Rest, ends, goes_on, single, long, shape_by_place}
-use Rattle.theory.proofs.Bounds.{item_within}
-use Rattle.net_incidence.specs.Graph.{Graph, bare}
+use Rattle.theory.proofs.Bounds.{negated-within, span_low-within, span_high-within}
+use Rattle.net_incidence.specs.Graph.{Graph}
 use Rattle.net_incidence.specs.Incidence.{over}
-use Rattle.painted_search.specs.Unpriced.{without_base, unpriced}
+use Rattle.net_incidence.specs.WithoutBases.{without_base, without_bases}
 
 pub record IsBounded (net : Network) : Type 0 where
   pub tails : (j : ℕ) → j < length net.arcs → tail net j < net.nodes
@@ -40,7 +40,7 @@ items-at items (d ∷ curves) none c zero l = refl
 items-at items (d ∷ curves) none c (suc j) l = items-at items curves none c j (omega arith)
 
 pub bounded : {C : Type 0} (items : C → List Ext) (g : Graph) (curves : List C) → length curves ≡ length g.arcs
-    → ((c : C) → IsCurveList (items c)) → ((c : C) → AreWithin number_most (items c)) → IsBounded (unpriced g (map items curves))
+    → ((c : C) → IsCurveList (items c)) → ((c : C) → AreWithin number_most (items c)) → IsBounded (without_bases g (map items curves))
 bounded items g curves one_each lists within = record {
   tails = g.good.tails;
   heads = g.good.heads;
@@ -58,13 +58,6 @@ begins_over net j false good l = good.heads j l
 pub begin-there : (net : Network) (s : Step) → IsBounded net → s.arc.0 < length net.arcs → begin_of net s < net.nodes
 begin-there net s good l = begins_over net s.arc.0 s.forward good l
 
-begins_in_graph : (g : Graph) (j : ℕ) (forward : Bool) → j < length g.arcs → begin_of (bare g) (over j forward) < g.nodes
-begins_in_graph g j true l = g.good.tails j l
-begins_in_graph g j false l = g.good.heads j l
-
-pub begin-in_graph : (g : Graph) (s : Step) → s.arc.0 < length g.arcs → begin_of (bare g) s < g.nodes
-begin-in_graph g s l = begins_in_graph g s.arc.0 s.forward l
-
 ends_over : (net : Network) (j : ℕ) (forward : Bool) → IsBounded net → j < length net.arcs → end_of net (over j forward) < net.nodes
 ends_over net j true good l = good.heads j l
 ends_over net j false good l = good.tails j l
@@ -81,31 +74,6 @@ pub ends-apart : (net : Network) (s : Step) → IsBounded net → s.arc.0 < leng
 ends-apart net s good l = apart_over net s.arc.0 s.forward good l
 
 -- ---- span ends within the limits
-
-if_within : (n : ℕ) (b : Bool) (d e : Ext) → IsWithin n (whole d) → IsWithin n (whole e) → IsWithin n (whole (if b then d else e))
-if_within n true d e first second = first
-if_within n false d e first second = second
-
-none_within : (n : ℕ) → IsWithin n (pos 0)
-none_within n = (omega (arith, ints), omega (arith, ints))
-
-before_last-within : (n : ℕ) (items : List Ext) → ((k : ℕ) → IsWithin n (whole (item items k))) → IsWithin n (whole (before_last items))
-before_last-within n [] each = none_within n
-before_last-within n (p ∷ []) each = none_within n
-before_last-within n (s ∷ p ∷ []) each = each 0
-before_last-within n (p ∷ s ∷ r ∷ rest) each = before_last-within n (s ∷ r ∷ rest) (λ k. each (suc k))
-
-pub span_low-within : (n : ℕ) (items : List Ext) → AreWithin n items → IsWithin n (whole (span_low items))
-span_low-within n items within = if_within n (is_finite (first items)) MinusInf (item items 1) (none_within n) (item_within n items within 1)
-
-pub span_high-within : (n : ℕ) (items : List Ext) → AreWithin n items → IsWithin n (whole (span_high items))
-span_high-within n items within =
-    if_within n (is_finite (last items)) PlusInf (before_last items) (none_within n) (before_last-within n items (item_within n items within))
-
-pub negated-within : (n : ℕ) (e : Ext) → IsWithin n (whole e) → IsWithin n (whole (negated e))
-negated-within n MinusInf within = none_within n
-negated-within n (At a) within = let low = within.0 in let high = within.1 in (omega (arith, ints), omega (arith, ints))
-negated-within n PlusInf within = none_within n
 
 over-within : (net : Network) (j : ℕ) (forward : Bool) → IsBounded net → j < length net.arcs
     → IsWithin number_most (whole (span_end net (over j forward)))

@@ -1,4 +1,6 @@
--- One arc is examined: its tension against the ends of its span.
+-- One arc is examined: its tension against the ends of its span. The upper end bounds the step forward over the arc, the negated
+-- lower end the step backward. So a tension between the ends is the same as both bounds; a tension past an end is past just one
+-- of the two, and lowering the node where that step ends to the bound is what the relaxing asks for.
 use Rattle.std.proofs.Common.{◌≡◌, ℕ, ◌<◌, ℤ, neg_ℤ, ◌≤ℤ◌, ◌<ℤ◌, Bool, true, false, if◌then◌else◌, Option, Some, None, List, length, map, get_or, SFits, w64, to_z, of_z, to_z-of_z, refl, sym, ap, ◌∙◌, subst, arith}
 use Rattle.std.proofs.lemmas.Int.{ints}
 use Rattle.theory.specs.declared.ext.Ext.{Ext}
@@ -14,7 +16,7 @@ use Rattle.net_incidence.specs.Graph.{Graph, bare}
 use Rattle.net_incidence.specs.Incidence.{over}
 use Rattle.painted_search.specs.Room.{Room}
 use Rattle.painted_search.specs.Writes.{with_potential, relabelled}
-use Rattle.painted_search.specs.Unpriced.{unpriced}
+use Rattle.net_incidence.specs.WithoutBases.{without_bases}
 use Rattle.feasible_tension.specs.Bounds.{most_at, IsHeld, lowered, IsLowered, IsExamined}
 use Rattle.feasible_tension.specs.Kept.{IsKept}
 use Rattle.feasible_tension.specs.Passed.{IsPassedBy}
@@ -96,13 +98,13 @@ lowered-made net v mid w s i x potential label end most =
 -- ---- what was read
 
 pub ends-read : {C : Type 0} (items : C → List Ext) (g : Graph) (curves : List C) (c : C) (j : ℕ) (low high : Ext) → j < length curves
-    → low ≡ span_low (items (get_or curves j c)) → high ≡ span_high (items (get_or curves j c)) → AreEnds (unpriced g (map items curves)) j low high
+    → low ≡ span_low (items (get_or curves j c)) → high ≡ span_high (items (get_or curves j c)) → AreEnds (without_bases g (map items curves)) j low high
 ends-read items g curves c j low high there low_is high_is =
     let same = items-at items curves _ c j there in
     record { low_is = low_is ∙ ap span_low (sym same); high_is = high_is ∙ ap span_high (sym same) }
 
 pub tension-read : (g : Graph) (lists : List (List Ext)) (u read : List ℤ) (j : ℕ) (t : ℤ) → SFits w64 t → t ≡ tension (bare g) («at» read) j
-    → read ≡ u → to_z w64 (of_z w64 t) ≡ tension (unpriced g lists) («at» u) j
+    → read ≡ u → to_z w64 (of_z w64 t) ≡ tension (without_bases g lists) («at» u) j
 tension-read g lists u read j t fits is same = to_z-of_z fits ∙ is ∙ ap (λ u. tension (bare g) («at» u) j) same
 
 -- ---- what is kept

@@ -8,9 +8,9 @@ pub mod Rounds
 pub mod Examining
 -- Back along the labels:
 pub mod Pigeons
-pub mod Leading
+pub mod LabelsComeRound
 -- The two answers:
-pub mod Fallen
+pub mod PotentialBound
 pub mod Shifting
-pub mod Going
-pub mod Turning
+pub mod CircuitIsNegative
+pub mod CircuitIsSimple

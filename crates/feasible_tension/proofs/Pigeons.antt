@@ -1,7 +1,7 @@
 -- Numbers below n: if they are more than n, two of them are the same.
 use Rattle.std.proofs.Common.{◌≡◌, ◌≢◌, ◌⊎◌, ℕ, zero, suc, ◌<◌, ◌≤◌, inl, inr, subst, ⊎_elim, arith}
 use Rattle.std.proofs.lemmas.Bool.{cases_lt, cases_eq}
-use Rattle.painted_search.proofs.Counting.{total_below-ones, total_below-distinct}
+use Rattle.theory.proofs.Counting.{total_below-ones, total_below-distinct}
 
 pub record IsRepeated (number : ℕ → ℕ) (count : ℕ) : Type 0 where
   pub first : ℕ

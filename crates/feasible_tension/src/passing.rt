@@ -8,7 +8,7 @@ ghost use Rattle.theory.specs.Circuit.{IsNegativeCircuit, WalkIsThere};
 ghost use Rattle.net_incidence.specs.FlowAlong.{AreSmall};
 ghost use Rattle.painted_search.specs.Fits.{Fits};
 ghost use Rattle.painted_search.specs.Path.{label_at};
-ghost use Rattle.painted_search.specs.Unpriced.{unpriced, IsPassable};
+ghost use Rattle.net_incidence.specs.WithoutBases.{without_bases, IsPassable};
 ghost use Rattle.feasible_tension.specs.Kept.{IsKept, IsShifted};
 
 use crate::relaxing::Spans;
@@ -28,7 +28,8 @@ pub enum TensionAns {
 }
 
 /// Finds a feasible potential, or a circuit that refuses every tension. It takes no memory, and writes over potentials, labels
-/// and walk.
+/// and walk. The labels after it are its own and not those of a search: a node's label is the step whose bound lowered the node
+/// last, and a node that was never lowered has none. The marks stay.
 pub fn feasible_tension<C: Monotone, L: Ledger>(
     net: &Net,
     curves: &[C],
@@ -38,11 +39,11 @@ pub fn feasible_tension<C: Monotone, L: Ledger>(
     requires passable { IsPassable net.now (length curves.now) }
     requires light { All (λ c. C.weight c ≡ 1) curves.now }
     requires fits { Fits net.now work.old }
-    ensures potential { result ≡ TensionAns.Potential → IsFeasiblePotential 1 (unpriced net.now (map C.items curves.now)) work.new.potentials }
+    ensures potential { result ≡ TensionAns.Potential → IsFeasiblePotential 1 (without_bases net.now (map C.items curves.now)) work.new.potentials }
     ensures within { result ≡ TensionAns.Potential → (i : ℕ) → i < net.now.nodes
         → IsWithin (net.now.nodes * number_most) («at» work.new.potentials i) }
-    ensures circuit { result ≡ TensionAns.Circuit → IsNegativeCircuit (unpriced net.now (map C.items curves.now)) work.new.walk }
-    ensures there { result ≡ TensionAns.Circuit → WalkIsThere (unpriced net.now (map C.items curves.now)) work.new.walk }
+    ensures circuit { result ≡ TensionAns.Circuit → IsNegativeCircuit (without_bases net.now (map C.items curves.now)) work.new.walk }
+    ensures there { result ≡ TensionAns.Circuit → WalkIsThere (without_bases net.now (map C.items curves.now)) work.new.walk }
     ensures flows { work.new.flows ≡ work.old.flows }
     ensures fits { Fits net.now work.new }
     ensures no_fewer { steps.old ≤ steps.new }

@@ -7,7 +7,7 @@ ghost use Rattle.theory.specs.Circuit.{begin_of, end_of, span_end};
 ghost use Rattle.theory.specs.Limits.{number_most, IsWithin};
 ghost use Rattle.net_incidence.specs.FlowAlong.{AreSmall};
 ghost use Rattle.painted_search.specs.Fits.{Fits};
-ghost use Rattle.painted_search.specs.Unpriced.{unpriced, IsPassable};
+ghost use Rattle.net_incidence.specs.WithoutBases.{without_bases, IsPassable};
 ghost use Rattle.feasible_tension.specs.Back.{IsDeep};
 ghost use Rattle.feasible_tension.specs.Bounds.{IsHeld, IsExamined, lowered};
 ghost use Rattle.feasible_tension.specs.Kept.{IsKept};
@@ -28,17 +28,17 @@ pub(crate) struct Spans<'a, C> {
 }
 
 impl<C: Monotone> Spans<'_, C> {
-    /// Goes on until a round lowers no node. None then; else a node that was lowered in the last of as many rounds as there
-    /// are nodes.
+    /// Goes on until a round lowers no node. None then; else a node that has as many labels behind it as there are nodes. The
+    /// labels come round once they are that many, mostly after a few rounds, and always after as many as there are nodes.
     pub(crate) fn rounds<L: Ledger>(&self, work: &mut Work, steps: &mut Steps<L>) -> Option<NodeId>
         requires passable { IsPassable self.now.net.now (length self.now.curves.now) }
         requires light { All (λ c. C.weight c ≡ 1) self.now.curves.now }
         requires fits { Fits self.now.net.now work.old }
-        requires relaxing { IsRelaxing (unpriced self.now.net.now (map C.items self.now.curves.now)) 0 0 None work.old }
-        ensures relaxed { (rounds : ℕ) × IsRelaxing (unpriced self.now.net.now (map C.items self.now.curves.now)) rounds 0 None work.new }
+        requires relaxing { IsRelaxing (without_bases self.now.net.now (map C.items self.now.curves.now)) 0 0 None work.old }
+        ensures relaxed { (rounds : ℕ) × IsRelaxing (without_bases self.now.net.now (map C.items self.now.curves.now)) rounds 0 None work.new }
         ensures held { result ≡ None → (j : ℕ) → j < length self.now.net.now.arcs
-            → IsHeld (unpriced self.now.net.now (map C.items self.now.curves.now)) work.new.potentials j }
-        ensures deep { IfSome result (λ node. IsDeep (unpriced self.now.net.now (map C.items self.now.curves.now)) work.new.labels
+            → IsHeld (without_bases self.now.net.now (map C.items self.now.curves.now)) work.new.potentials j }
+        ensures deep { IfSome result (λ node. IsDeep (without_bases self.now.net.now (map C.items self.now.curves.now)) work.new.labels
             self.now.net.now.nodes node.0) }
         ensures kept { IsKept work.old work.new }
         ensures no_fewer { steps.old ≤ steps.new }
@@ -47,6 +47,9 @@ impl<C: Monotone> Spans<'_, C> {
         let mut changed = None;
         for round in 0..self.net.nodes() {
             let node = self.round(round, work, steps)?;
+            if self.is_deep(node, work) {
+                return Some(node);
+            }
             changed = Some(node);
         }
         changed
@@ -63,11 +66,11 @@ impl<C: Monotone> Spans<'_, C> {
         requires light { All (λ c. C.weight c ≡ 1) self.now.curves.now }
         requires fits { Fits self.now.net.now work.old }
         requires few { round < self.now.net.now.nodes }
-        requires relaxing { IsRelaxing (unpriced self.now.net.now (map C.items self.now.curves.now)) round 0 None work.old }
-        ensures relaxing { IsRelaxing (unpriced self.now.net.now (map C.items self.now.curves.now)) (round + 1) 0 None work.new }
+        requires relaxing { IsRelaxing (without_bases self.now.net.now (map C.items self.now.curves.now)) round 0 None work.old }
+        ensures relaxing { IsRelaxing (without_bases self.now.net.now (map C.items self.now.curves.now)) (round + 1) 0 None work.new }
         ensures held { result ≡ None → (j : ℕ) → j < length self.now.net.now.arcs
-            → IsHeld (unpriced self.now.net.now (map C.items self.now.curves.now)) work.new.potentials j }
-        ensures deep { IfSome result (λ node. IsDeep (unpriced self.now.net.now (map C.items self.now.curves.now)) work.new.labels
+            → IsHeld (without_bases self.now.net.now (map C.items self.now.curves.now)) work.new.potentials j }
+        ensures deep { IfSome result (λ node. IsDeep (without_bases self.now.net.now (map C.items self.now.curves.now)) work.new.labels
             (round + 1) node.0) }
         ensures kept { IsKept work.old work.new }
         ensures no_fewer { steps.old ≤ steps.new }
@@ -94,7 +97,7 @@ impl<C: Monotone> Spans<'_, C> {
         requires fits { Fits self.now.net.now work.old }
         requires there { arc.0 < length self.now.net.now.arcs }
         requires small { AreSmall work.old.potentials }
-        ensures examined { IsExamined (unpriced self.now.net.now (map C.items self.now.curves.now)) arc.0 work.old result work.new }
+        ensures examined { IsExamined (without_bases self.now.net.now (map C.items self.now.curves.now)) arc.0 work.old result work.new }
         ensures no_fewer { steps.old ≤ steps.new }
         ensures count { steps.new ≤ steps.old + 1 }
     {
@@ -110,9 +113,9 @@ impl<C: Monotone> Spans<'_, C> {
         requires there { step.arc.0 < length self.now.net.now.arcs }
         requires small { AreSmall work.old.potentials }
         requires within { IsWithin number_most bound }
-        requires bound { bound ≡ whole (span_end (unpriced self.now.net.now (map C.items self.now.curves.now)) step) }
-        ensures node { result.0 ≡ end_of (unpriced self.now.net.now (map C.items self.now.curves.now)) step }
-        ensures lowered { work.new ≡ lowered (unpriced self.now.net.now (map C.items self.now.curves.now)) work.old step }
+        requires bound { bound ≡ whole (span_end (without_bases self.now.net.now (map C.items self.now.curves.now)) step) }
+        ensures node { result.0 ≡ end_of (without_bases self.now.net.now (map C.items self.now.curves.now)) step }
+        ensures lowered { work.new ≡ lowered (without_bases self.now.net.now (map C.items self.now.curves.now)) work.old step }
     {
         let end = self.net.end(step);
         let potential = work.potential(self.net.begin(step)) + bound;

@@ -126,14 +126,16 @@ fn finds_potentials_and_circuits(rt: HostRuntime) -> Result<(), Fail> {
             [0, -1].as_slice(),
             [].as_slice(),
         ),
-        // Negative circuits: of two steps, of three, and with a step backward.
+        // Negative circuits: of two steps, of three, and with a step backward. The first and the last have come round after one
+        // round, so that their potentials are those of one round and the walk begins at the node that it lowered last; the one
+        // of three steps is labelled whole in the third round.
         (
             2,
             [(0, 1), (1, 0)].as_slice(),
             [below, level].as_slice(),
             TensionAns::Circuit,
-            [-1, -2].as_slice(),
-            [f(1), f(0)].as_slice(),
+            [-1, -1].as_slice(),
+            [f(0), f(1)].as_slice(),
         ),
         (
             3,
@@ -148,8 +150,8 @@ fn finds_potentials_and_circuits(rt: HostRuntime) -> Result<(), Fail> {
             [(0, 1), (0, 1)].as_slice(),
             [far_above, above].as_slice(),
             TensionAns::Circuit,
-            [-3, -1].as_slice(),
-            [f(1), b(0)].as_slice(),
+            [-2, -1].as_slice(),
+            [b(0), f(1)].as_slice(),
         ),
     ] {
         let net = net_of(&rt, nodes, arcs)?;

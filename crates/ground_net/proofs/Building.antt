@@ -1,7 +1,7 @@
 -- A grounded network grows by its arcs in order: ground arc k is number k, arc k of the model is number N + k, with N the
 -- count of model nodes. What is built after all of them is the grounded network, and that is a network.
-use Rattle.std.proofs.Common.{◌≡◌, ℕ, ◌+◌, ◌<◌, ◌≤◌, List, [], ◌∷◌, ◌++◌, length, take, get_or, slice_index_or, refl, sym, ap, ◌∙◌, add-one, arith}
-use Rattle.std.proofs.lemmas.List.{take_all, length-take}
+use Rattle.std.proofs.Common.{◌≡◌, ℕ, ◌+◌, ◌<◌, List, [], ◌∷◌, ◌++◌, length, take, get_or, slice_index_or, refl, sym, ap, ◌∙◌, add-one, arith}
+use Rattle.std.proofs.lemmas.List.{take_all}
 use Rattle.std.proofs.Math.Seq.{take-suc}
 use Rattle.theory.specs.declared.network.Arc.{Arc}
 use Rattle.theory.specs.CurveList.{Listing}
@@ -19,11 +19,6 @@ taken-more : {A : Type 0} (xs ys zs : List A) (k : ℕ) (x d : A) → k < length
     → zs ≡ take (k + 1) xs
 taken-more xs ys zs k x d there before is more =
     more ∙ ap (λ some. some ++ x ∷ []) before ∙ ap (λ last. take k xs ++ last ∷ []) (sym is) ∙ sym (rw add-one (take-suc xs k d there))
-
-pub built-room : (m : Entries) (k : ℕ) (g : Graph) (listed : List Listing) → IsBuilt m k g listed → length g.arcs ≤ k
-built-room m k g listed built =
-    let count : length g.arcs ≡ length (take k (grounded m).arcs) = ap length built.arcs in
-    omega (arith, length-take k (grounded m).arcs)
 
 built-more : (m : Entries) (k : ℕ) (g h : Graph) (listed more : List Listing) (arc : Arc) (c : Listing) → k < length m.nodes + length m.arcs
     → IsBuilt m k g listed → arc_at (grounded m).arcs k ≡ arc → curve (grounded m) k ≡ c
@@ -74,8 +69,8 @@ grounded-is m formed =
       heads = λ i l. head-ground m i (omega arith);
       arc_each = omega arith;
       ground_there = omega arith;
-      few_nodes = omega (arith, formed.nodes_most);
-      few_arcs = omega (arith, formed.nodes_most, formed.arcs_most);
+      few_nodes = omega (arith, formed.few_nodes);
+      few_arcs = omega (arith, formed.few_nodes, formed.few_arcs);
     }
 
 pub built-is_grounded : (m : Entries) (g : Graph) (listed : List Listing) → IsWellFormed m

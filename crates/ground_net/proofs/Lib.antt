@@ -1,1 +1,3 @@
 pub mod Building
+pub mod Costs
+pub mod Items

@@ -1,6 +1,7 @@
 -- The grounded network of a model as it is seen: a network, and what holds of every grounded network.
 use Rattle.std.specs.Prelude.{◌≡◌, ℕ, ◌+◌, ◌<◌, ◌≤◌, List, length, map}
 use Rattle.theory.specs.CurveList.{Listing}
+use Rattle.theory.specs.Limits.{grounded_nodes_most, grounded_arcs_most}
 use Rattle.theory.specs.Network.{Network, IsNetwork, tail, head}
 use Rattle.mono_curve.specs.CurveValue.{CurveValue}
 
@@ -15,8 +16,8 @@ pub record IsGrounded (net : Network) : Type 0 where
   pub heads : (i : ℕ) → i + 1 < net.nodes → head net i ≡ i + 1
   pub ground_there : 1 ≤ net.nodes
   pub arc_each : net.nodes ≤ length net.arcs + 1
-  pub few_nodes : net.nodes ≤ 2001
-  pub few_arcs : length net.arcs ≤ 12000
+  pub few_nodes : net.nodes ≤ grounded_nodes_most
+  pub few_arcs : length net.arcs ≤ grounded_arcs_most
 
 pub record GroundedNet : Type 0 where
   pub network : Network

@@ -6,7 +6,7 @@ ghost use Rattle.ground_net.specs.Built.{IsBuilt};
 
 use crate::grounded::Grounded;
 use model_text::Model;
-use mono_curve::{Curve, to_curve};
+use mono_curve::Curve;
 use net_incidence::{Net, NetFault, NodeId};
 use std::alloc::{AllocError, Global};
 
@@ -87,7 +87,7 @@ fn add_arc(
     ensures arcs { OnOk result (net.new.arcs ≡ net.old.arcs ++ joining ends.0 ends.1 ∷ []) }
     ensures curves { OnOk result (listings curves.new.items ≡ listings curves.old.items ++ curve.now.listing ∷ []) }
 {
-    let copy = to_curve(alloc, curve)?;
+    let copy = curve.copy(alloc)?;
     match net.add_arc(NodeId(ends.0), NodeId(ends.1)) {
         Ok(_) => {}
         Err(NetFault::NoMemory) => return Err(AllocError),

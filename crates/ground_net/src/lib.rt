@@ -3,9 +3,11 @@
 
 mod build;
 mod grounded;
+mod pricing;
 
 pub use build::ground;
 pub use grounded::Grounded;
+pub use pricing::total_cost;
 
 #[cfg(test)]
 mod tests;

@@ -1,7 +1,6 @@
 // The grounded network of a small model, worked by hand.
 ghost use Rattle.std.specs.Prelude.{◌≤◌, length, IfOk};
-ghost use Rattle.theory.specs.Limits.{number_most, IsWithin};
-ghost use Rattle.model_text.specs.declared.model.TheConstants.{LIST_MOST};
+ghost use Rattle.theory.specs.Limits.{list_most, number_most, IsWithin};
 
 use crate::{Grounded, ground};
 use model_text::{Model, Name};
@@ -10,8 +9,8 @@ use net_incidence::{ArcId, NodeId};
 use std::test::Fail;
 
 fn curve(rt: &HostRuntime, items: &[Ext]) -> Result<Curve, Fail>
-    requires { length items.now ≤ LIST_MOST }
-    ensures short { IfOk result (λ c. length c.listing.items ≤ LIST_MOST) }
+    requires { length items.now ≤ list_most }
+    ensures short { IfOk result (λ c. length c.listing.items ≤ list_most) }
     ensures base { IfOk result (λ c. IsWithin number_most c.listing.base) }
 {
     Ok(Curve::of_list(rt.alloc(), items, 0)?)

@@ -2,7 +2,7 @@
 use Rattle.std.proofs.Common.{◌≡◌, ℕ, zero, suc, ◌<◌, ◌≤◌, List, [], ◌∷◌, length, get_or, map, sym, arith}
 use Rattle.std.proofs.lemmas.List.{get_or-map}
 use Rattle.theory.specs.declared.ext.Ext.{Ext}
-use Rattle.kilter_solver.specs.Along.{list_at}
+use Rattle.theory.specs.Network.{list_at}
 use Rattle.kilter_solver.specs.BundleFacts.{greatest}
 
 pub list-of : {C : Type 0} (items : C → List Ext) (curves : List C) (d : C) (j : ℕ) → j < length curves

@@ -6,19 +6,17 @@ use Rattle.std.proofs.lemmas.Int.{ints}
 use Rattle.std.proofs.lemmas.Bool.{cases_eq, cases_lt, ne_eqb}
 use Rattle.std.proofs.lemmas.List.{get_or-set_same, get_or-set_other}
 use Rattle.theory.specs.declared.ext.Ext.{Ext}
-use Rattle.theory.specs.Sums.{counted}
+use Rattle.theory.specs.Sums.{counted, positive_part}
 use Rattle.theory.specs.Limits.{IsWithin}
 use Rattle.theory.specs.Readings.{IsRange}
-use Rattle.theory.specs.Network.{«at», tail, head}
+use Rattle.theory.specs.Network.{«at», tail, head, list_at}
 use Rattle.theory.specs.Conserved.{tension}
 use Rattle.net_incidence.specs.Graph.{Graph, bare}
 use Rattle.painted_search.specs.Room.{Room}
 use Rattle.painted_search.specs.Writes.{with_flow, with_scratch}
-use Rattle.painted_search.proofs.Counting.{total_below-same}
-use Rattle.kilter_solver.specs.Along.{list_at}
-use Rattle.kilter_solver.specs.Excess.{excess, AreExcesses, positive_part, surpluses}
+use Rattle.theory.proofs.Counting.{total_below-same, total_below-change}
+use Rattle.kilter_solver.specs.Excess.{excess, AreExcesses, surpluses}
 use Rattle.kilter_solver.specs.Clamping.{word_most, IsClosest, IsClosestFlow, shift_most, shifts, IsClampedBelow, IsClampable, IsShifted, IsClampedOne}
-use Rattle.kilter_solver.proofs.Marking.{total_below-change}
 use Rattle.kilter_solver.proofs.Pushing.{divergence-changed}
 
 -- ---- between the ends of a range

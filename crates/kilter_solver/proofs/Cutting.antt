@@ -2,16 +2,15 @@
 -- arc that leaves them carries the greatest flow of its domain and each that enters them the least. So the cut sum is the flow
 -- that leaves the set less what enters it, which is minus the sum of the excesses in the set: none is below 0, and that of the
 -- source is above it. Where no node has a surplus, all excesses are 0, since their sum is.
-use Rattle.std.proofs.Common.{◌≡◌, ℕ, zero, suc, ◌<◌, ℤ, pos, ◌+ℤ◌, ◌-ℤ◌, neg_ℤ, ◌≤ℤ◌, ◌<ℤ◌, Bool, true, false, not, ◌&&◌, IsTrue, if◌then◌else◌, List, [], ◌∷◌, length, refl, sym, ap, ◌∙◌, subst, arith}
+use Rattle.std.proofs.Common.{◌≡◌, ℕ, ◌<◌, ℤ, pos, ◌+ℤ◌, ◌-ℤ◌, neg_ℤ, ◌≤ℤ◌, ◌<ℤ◌, Bool, true, false, not, ◌&&◌, IsTrue, if◌then◌else◌, List, length, refl, sym, ap, ◌∙◌, subst, arith}
 use Rattle.std.proofs.lemmas.Int.{ints}
 use Rattle.std.proofs.lemmas.Bool.{false≢true}
-use Rattle.std.proofs.lemmas.List.{length-map}
 use Rattle.theory.specs.declared.ext.Ext.{Ext}
 use Rattle.theory.specs.declared.ext.Ext.TheVariants.{At}
 use Rattle.theory.specs.Sums.{counted}
 use Rattle.theory.specs.Ends.{IsFinite, whole, negated}
 use Rattle.theory.specs.CurveList.{IsCurveList, first, last}
-use Rattle.theory.specs.Network.{IsNetwork, «at», curve, tail, head}
+use Rattle.theory.specs.Network.{«at», curve, tail, head, list_at}
 use Rattle.theory.specs.Conserved.{divergence, IsConserved}
 use Rattle.theory.specs.Cut.{holds, IsNegativeCut, cut_end}
 use Rattle.theory.specs.OnCurve.{IsOnCurve}
@@ -20,29 +19,12 @@ use Rattle.theory.proofs.SumsBelow.{sum_below-same, sum_below-zero, sum_below-ad
 use Rattle.net_incidence.specs.Graph.{Graph, bare}
 use Rattle.net_incidence.specs.Incidence.{over}
 use Rattle.painted_search.specs.Room.{Room}
-use Rattle.painted_search.specs.Unpriced.{without_base, unpriced}
-use Rattle.kilter_solver.specs.Along.{list_at}
+use Rattle.net_incidence.specs.WithoutBases.{without_bases}
+use Rattle.net_incidence.proofs.WithoutBases.{without_bases-items, without_bases-network}
 use Rattle.kilter_solver.specs.Excess.{excess, AreExcesses}
 use Rattle.kilter_solver.specs.Spread.{is_near, IsStuck}
 use Rattle.kilter_solver.specs.Routing.{IsBalancing}
 use Rattle.kilter_solver.proofs.NextFlow.{at_last, at_first}
-
--- ---- the net as a network
-
-pub list-curve : (lists : List (List Ext)) (g : Graph) (j : ℕ) → (curve (unpriced g lists) j).items ≡ list_at lists j
-list-curve [] g j = refl
-list-curve (items ∷ lists) g zero = refl
-list-curve (items ∷ lists) g (suc j) = list-curve lists g j
-
-pub unpriced-network : (g : Graph) (lists : List (List Ext)) → ((j : ℕ) → IsCurveList (list_at lists j)) → length lists ≡ length g.arcs
-    → IsNetwork (unpriced g lists)
-unpriced-network g lists are one_each = record {
-  tails = g.good.tails;
-  heads = g.good.heads;
-  no_loops = g.good.no_loops;
-  one_curve_each = length-map lists without_base ∙ one_each;
-  curve_lists = λ j l. subst IsCurveList (sym (list-curve lists g j)) (are j);
-}
 
 -- ---- one arc
 
@@ -62,7 +44,7 @@ crossing_is low high x false false out into = record { finite = refl; same = ome
 
 module _ (g : Graph) (lists : List (List Ext)) (source : ℕ) (w : Room) (are : (j : ℕ) → IsCurveList (list_at lists j))
     (balancing : IsBalancing g lists w) (stuck : IsStuck g lists source w) where
-  crosses : (j : ℕ) → j < length g.arcs → IsCrossing (cut_end (unpriced g lists) w.reached j) (crossing (unpriced g lists) (holds w.reached) («at» w.flows) j)
+  crosses : (j : ℕ) → j < length g.arcs → IsCrossing (cut_end (without_bases g lists) w.reached j) (crossing (without_bases g lists) (holds w.reached) («at» w.flows) j)
   crosses j l =
       let a = tail (bare g) j in
       let b = head (bare g) j in
@@ -73,13 +55,13 @@ module _ (g : Graph) (lists : List (List Ext)) (source : ℕ) (w : Room) (are : 
       let b_there = g.good.heads j l in
       let unmet : (i : ℕ) → holds w.reached i ≡ false → IsTrue (is_near w i) → ⊥ =
       (λ i out near. false≢true (sym out ∙ stuck.all_settled i near)) in
-      crossing_is (first (curve (unpriced g lists) j).items) (last (curve (unpriced g lists) j).items) x (holds w.reached a) (holds w.reached b)
+      crossing_is (first (curve (without_bases g lists) j).items) (last (curve (without_bases g lists) j).items) x (holds w.reached a) (holds w.reached b)
       (λ done out.
-      ap last (list-curve lists g j)
+      ap last (without_bases-items g lists j)
       ∙ at_last items x (u b -ℤ u a) (are j)
       (λ t least. (stuck.spread.tried (over j true) l done (λ e. omega arith)).pairs t least (λ near. absurd (unmet b out near))))
       (λ out done.
-      ap first (list-curve lists g j)
+      ap first (without_bases-items g lists j)
       ∙ at_first items x (u b -ℤ u a) (are j)
       (λ t most.
       let e : neg_ℤ (neg_ℤ t) ≡ t = omega (arith, ints) in
@@ -98,11 +80,11 @@ module _ (g : Graph) (lists : List (List Ext)) (source : ℕ) (w : Room) (are : 
   counted-in true e h = refl
   counted-in false e h = absurd (false≢true h)
 
-  pub stuck-cut : source < g.nodes → pos 0 <ℤ excess w source → IsNegativeCut (unpriced g lists) w.reached
+  pub stuck-cut : source < g.nodes → pos 0 <ℤ excess w source → IsNegativeCut (without_bases g lists) w.reached
   stuck-cut there surplus =
-      let net = unpriced g lists in
+      let net = without_bases g lists in
       let n = g.nodes in
-      let good = unpriced-network g lists are balancing.one_list_each in
+      let good = without_bases-network g lists are balancing.one_list_each in
       let law = cut_law net (holds w.reached) («at» w.flows) good in
       let across = sum_below-same (length g.arcs) (λ j. whole (cut_end net w.reached j)) (crossing net (holds w.reached) («at» w.flows))
       (λ j l. (crosses j l).same) in
@@ -117,10 +99,10 @@ module _ (g : Graph) (lists : List (List Ext)) (source : ℕ) (w : Room) (are : 
 -- ---- no surplus
 
 pub sated-conserved : (g : Graph) (lists : List (List Ext)) (x : List ℤ) (e : ℕ → ℤ) → ((j : ℕ) → IsCurveList (list_at lists j))
-    → length lists ≡ length g.arcs → AreExcesses (bare g) («at» x) e → ((i : ℕ) → i < g.nodes → e i ≤ℤ pos 0) → IsConserved (unpriced g lists) («at» x)
+    → length lists ≡ length g.arcs → AreExcesses (bare g) («at» x) e → ((i : ℕ) → i < g.nodes → e i ≤ℤ pos 0) → IsConserved (without_bases g lists) («at» x)
 sated-conserved g lists x e are one_each excesses sated i l =
-    let net = unpriced g lists in
-    let total = divergence-total net («at» x) (unpriced-network g lists are one_each) in
+    let net = without_bases g lists in
+    let total = divergence-total net («at» x) (without_bases-network g lists are one_each) in
     let zeros = sum_below-zero g.nodes (λ (k : ℕ). pos 0) (λ k h. refl) in
     let same = sum_below-equal_terms g.nodes (λ k. pos 0) (divergence net («at» x))
     (λ k h. let d = excesses.exact k h in let s = sated k h in omega (arith, ints)) (omega (arith, ints)) i l in

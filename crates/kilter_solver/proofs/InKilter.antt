@@ -2,7 +2,7 @@
 -- it, and clamping moves no flow further than that. So the surpluses together are at most the limit for each arc, which bounds the
 -- searches, and with them the flows. Potentials fall below that of a node that lacks something by twice the limit for each node at
 -- most.
-use Rattle.std.proofs.Common.{◌≡◌, ◌⊎◌, inl, inr, ℕ, zero, suc, ◌+◌, ◌*◌, ◌^◌, ◌<◌, ◌≤◌, ◌==◌, ℤ, pos, ◌+ℤ◌, ◌-ℤ◌, neg_ℤ, ◌≤ℤ◌, ◌<ℤ◌, Bool, true, false, List, [], ◌∷◌, length, refl, sym, ap, ◌∙◌, subst, ⊎_elim, arith}
+use Rattle.std.proofs.Common.{◌≡◌, ◌⊎◌, inl, inr, ℕ, ◌+◌, ◌*◌, ◌^◌, ◌<◌, ◌≤◌, ◌==◌, ℤ, pos, ◌+ℤ◌, ◌-ℤ◌, neg_ℤ, ◌≤ℤ◌, ◌<ℤ◌, List, [], ◌∷◌, length, sym, ap, ◌∙◌, subst, ⊎_elim, arith}
 use Rattle.std.specs.Prelude.{unsigned_abs}
 use Rattle.std.specs.List.{All}
 use Rattle.std.proofs.lemmas.Int.{ints}
@@ -11,48 +11,34 @@ use Rattle.std.proofs.lemmas.List.{get_or_past}
 use Rattle.std.proofs.lemmas.List.Elements.{All-head, All-tail}
 use Rattle.std.proofs.Math.Nat.{mul-le-mul_left}
 use Rattle.theory.specs.declared.ext.Ext.{Ext}
-use Rattle.theory.specs.Sums.{counted}
+use Rattle.theory.specs.Sums.{counted, positive_part}
 use Rattle.theory.specs.CurveList.{IsCurveList}
 use Rattle.theory.specs.Span.{InSpan}
 use Rattle.theory.specs.Limits.{IsWithin, AreWithin, number_most, flow_most}
 use Rattle.theory.specs.OnCurve.{IsOnCurve}
-use Rattle.theory.specs.Network.{«at», tail, head}
+use Rattle.theory.specs.Network.{«at», tail, head, list_at}
 use Rattle.theory.specs.Conserved.{divergence, tension, IsConserved}
 use Rattle.theory.specs.Feasible.{IsFeasiblePotential}
 use Rattle.theory.specs.Certificate.{IsOptimalPair, IsPotentialOf, AreNumbers}
 use Rattle.theory.specs.ReadingBound.{unscaled_unit}
 use Rattle.theory.proofs.Bounds.{abs_within}
-use Rattle.theory.proofs.SumsBelow.{sum_below-zero}
-use Rattle.curve_views.proofs.ReadingBounds.{small_flow}
+use Rattle.theory.proofs.SumsBelow.{sum_below-zero, counted-zero}
+use Rattle.mono_curve.proofs.ReadingBounds.{small_flow}
 use Rattle.net_incidence.specs.Graph.{Graph, bare}
 use Rattle.painted_search.specs.Room.{Room, count_most}
 use Rattle.painted_search.specs.Fits.{Fits}
-use Rattle.painted_search.specs.Unpriced.{unpriced}
-use Rattle.painted_search.proofs.Counting.{total_below, total_below-order, total_below-zero}
-use Rattle.kilter_solver.specs.Along.{list_at}
+use Rattle.net_incidence.specs.WithoutBases.{without_bases}
+use Rattle.net_incidence.proofs.WithoutBases.{without_bases-items}
+use Rattle.theory.proofs.Counting.{total_below-order, total_below-zero, total_below-most}
 use Rattle.kilter_solver.specs.BundleFacts.{greatest}
-use Rattle.kilter_solver.specs.Excess.{excess, positive_part, surpluses}
+use Rattle.kilter_solver.specs.Excess.{excess, surpluses}
 use Rattle.kilter_solver.specs.Routing.{IsBalancing, IsSafe, Routes, fall_most}
 use Rattle.kilter_solver.specs.Clamping.{HasPairNear, shift_most, IsLoose, IsClampedBelow, IsBegun, IsGroundedBelow, AreNear}
-use Rattle.kilter_solver.proofs.Cutting.{list-curve}
-
--- ---- sums of equal terms
-
-total_below-most : (n most : ℕ) (f : ℕ → ℕ) → ((k : ℕ) → k < n → f k ≤ most) → total_below n f ≤ n * most
-total_below-most zero most f h = omega arith
-total_below-most (suc n) most f h =
-    let before : total_below n f ≤ n * most = total_below-most n most f (λ k l. h k (omega arith)) in
-    let last : f n ≤ most = h n (omega arith) in
-    omega arith
-
-counted-none : (b : Bool) (x : ℤ) → x ≡ pos 0 → counted b x ≡ pos 0
-counted-none true x e = e
-counted-none false x e = refl
 
 module _ (g : Graph) (lists : List (List Ext)) (are : (j : ℕ) → IsCurveList (list_at lists j)) (within : (j : ℕ) → AreWithin number_most (list_at lists j))
-    (u : List ℤ) (potential : IsFeasiblePotential 1 (unpriced g lists) u) where
+    (u : List ℤ) (potential : IsFeasiblePotential 1 (without_bases g lists) u) where
   in_span : (j : ℕ) → j < length g.arcs → InSpan 1 (list_at lists j) (tension (bare g) («at» u) j)
-  in_span j l = subst (λ (items : List Ext). InSpan 1 items (tension (bare g) («at» u) j)) (list-curve lists g j) (potential.in_spans j l)
+  in_span j l = subst (λ (items : List Ext). InSpan 1 items (tension (bare g) («at» u) j)) (without_bases-items g lists j) (potential.in_spans j l)
 
   pub near-zero : (most : ℕ) → number_most ≤ most → (j : ℕ) → j < length g.arcs → HasPairNear most (list_at lists j) (pos 0) (tension (bare g) («at» u) j)
   near-zero most enough j l =
@@ -73,7 +59,7 @@ all-near g w same near i =
 -- ---- the beginning
 
 module _ (g : Graph) (lists : List (List Ext)) (are : (j : ℕ) → IsCurveList (list_at lists j)) (within : (j : ℕ) → AreWithin number_most (list_at lists j))
-    (one_each : length lists ≡ length g.arcs) (v b : Room) (fits : Fits g v) (potential : IsFeasiblePotential 1 (unpriced g lists) v.potentials)
+    (one_each : length lists ≡ length g.arcs) (v b : Room) (fits : Fits g v) (potential : IsFeasiblePotential 1 (without_bases g lists) v.potentials)
     (near : AreNear g.nodes v.potentials) (begun : IsBegun v b) where
   nodes_few : g.nodes ≤ count_most
   nodes_few = omega (arith, fits.same_nodes, v.sized.few_nodes)
@@ -91,9 +77,9 @@ module _ (g : Graph) (lists : List (List Ext)) (are : (j : ℕ) → IsCurveList 
   no_divergence : (i : ℕ) → divergence (bare g) («at» b.flows) i ≡ pos 0
   no_divergence i =
       let out = sum_below-zero (length g.arcs) (λ k. counted (tail (bare g) k == i) («at» b.flows k))
-      (λ k l. counted-none (tail (bare g) k == i) («at» b.flows k) (begun.flows k)) in
+      (λ k l. counted-zero (tail (bare g) k == i) («at» b.flows k) (begun.flows k)) in
       let into = sum_below-zero (length g.arcs) (λ k. counted (head (bare g) k == i) («at» b.flows k))
-      (λ k l. counted-none (head (bare g) k == i) («at» b.flows k) (begun.flows k)) in
+      (λ k l. counted-zero (head (bare g) k == i) («at» b.flows k) (begun.flows k)) in
       omega (arith, ints)
 
   pub begun-loose : IsLoose g lists b
@@ -237,17 +223,17 @@ module _ (g : Graph) (lists : List (List Ext)) (are : (j : ℕ) → IsCurveList 
 
       -- ---- grounded
 
-      module _ (w : Room) (conserved : IsConserved (unpriced g lists) («at» r.flows)) (grounded : IsGroundedBelow r.nodes («at» r.potentials 0) r w) where
+      module _ (w : Room) (conserved : IsConserved (without_bases g lists) («at» r.flows)) (grounded : IsGroundedBelow r.nodes («at» r.potentials 0) r w) where
         lost : (i : ℕ) → i < g.nodes → «at» w.potentials i ≡ «at» r.potentials i -ℤ «at» r.potentials 0
         lost i l = grounded.lost i (omega (arith, balancing.same_nodes))
 
-        pub grounded-pair : IsOptimalPair (unpriced g lists) w.flows w.potentials
+        pub grounded-pair : IsOptimalPair (without_bases g lists) w.flows w.potentials
         grounded-pair = record {
-          conserved = subst (λ (x : List ℤ). IsConserved (unpriced g lists) («at» x)) (sym grounded.flows) conserved;
+          conserved = subst (λ (x : List ℤ). IsConserved (without_bases g lists) («at» x)) (sym grounded.flows) conserved;
           on_curves = λ j l.
               let t : tension (bare g) («at» r.potentials) j ≡ tension (bare g) («at» w.potentials) j =
               (let a = lost (tail (bare g) j) (g.good.tails j l) in let b = lost (head (bare g) j) (g.good.heads j l) in omega (arith, ints)) in
-              subst (λ (items : List Ext). IsOnCurve 1 items («at» w.flows j) (tension (bare g) («at» w.potentials) j)) (sym (list-curve lists g j))
+              subst (λ (items : List Ext). IsOnCurve 1 items («at» w.flows j) (tension (bare g) («at» w.potentials) j)) (sym (without_bases-items g lists j))
               (subst (λ (x : List ℤ). IsOnCurve 1 (list_at lists j) («at» x j) (tension (bare g) («at» w.potentials) j)) (sym grounded.flows)
               (subst (λ (z : ℤ). IsOnCurve 1 (list_at lists j) («at» r.flows j) z) t (balancing.on_curves.pairs j l)));
         }
@@ -258,7 +244,7 @@ module _ (g : Graph) (lists : List (List Ext)) (are : (j : ℕ) → IsCurveList 
           within = λ j l. subst (λ (x : List ℤ). IsWithin flow_most («at» x j)) (sym grounded.flows) (routed_flow j);
         }
 
-        pub grounded-potentials : IsPotentialOf (unpriced g lists) w.potentials
+        pub grounded-potentials : IsPotentialOf (without_bases g lists) w.potentials
         grounded-potentials = record {
           numbers = record {
             one_each = w.sized.one_potential_each ∙ grounded.nodes ∙ balancing.same_nodes;

@@ -17,8 +17,9 @@ pub mod Serving
 pub mod Clamps
 pub mod InKilter
 -- Certificates of what was found:
-pub mod CostSums
 pub mod Parts
 pub mod Pairs
+pub mod RightKind
+pub mod Fuelled
 -- In tests:
 pub mod Beginning

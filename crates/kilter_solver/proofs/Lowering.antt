@@ -10,7 +10,7 @@ use Rattle.std.proofs.lemmas.Bool.{cases_lt, false≢true}
 use Rattle.theory.specs.declared.ext.Ext.{Ext}
 use Rattle.theory.specs.Limits.{number_most}
 use Rattle.theory.specs.OnCurve.{IsOnCurve}
-use Rattle.theory.specs.Network.{«at», tail, head}
+use Rattle.theory.specs.Network.{«at», tail, head, list_at}
 use Rattle.theory.specs.Conserved.{tension}
 use Rattle.theory.specs.Cut.{holds}
 use Rattle.theory.specs.Circuit.{begin_of, end_of}
@@ -18,13 +18,14 @@ use Rattle.net_incidence.specs.Graph.{Graph, bare}
 use Rattle.net_incidence.specs.Incidence.{over}
 use Rattle.painted_search.specs.Room.{Room}
 use Rattle.painted_search.specs.Path.{label_at}
-use Rattle.kilter_solver.specs.Along.{list_at, rise, IsPairAlong, moved}
+use Rattle.kilter_solver.specs.Along.{rise, IsPairAlong, moved}
 use Rattle.kilter_solver.specs.Excess.{excess}
 use Rattle.kilter_solver.specs.Ready.{AreOnCurves}
 use Rattle.kilter_solver.specs.Spread.{key, level, is_near, WayTo, IsFound}
 use Rattle.kilter_solver.specs.Routing.{fallen, fallen_at, IsFallenBelow, IsOn, TightTo, IsRoute, IsNotFar}
 use Rattle.kilter_solver.proofs.Marking.{count-most}
-use Rattle.kilter_solver.proofs.Spreading.{near-done, begin_below, end_below}
+use Rattle.net_incidence.proofs.Graphs.{begin-in_graph, end-in_graph}
+use Rattle.kilter_solver.proofs.Spreading.{near-done}
 
 -- ---- one arc
 
@@ -125,9 +126,9 @@ module _ (g : Graph) (lists : List (List Ext)) (source target : ℕ) (v w : Room
       tight i on way =
           let s = way.last in
           let a = begin_of (bare g) s in
-          let i_there : i < g.nodes = subst (λ (k : ℕ). k < g.nodes) way.is.ends (end_below g s way.is.there) in
+          let i_there : i < g.nodes = subst (λ (k : ℕ). k < g.nodes) way.is.ends (end-in_graph g s way.is.there) in
           let end_is : «at» w.potentials (end_of (bare g) s) ≡ level v i -ℤ bound = ap («at» w.potentials) way.is.ends ∙ fallen-level i i_there on in
-          let begin_is = fallen-level a (begin_below g s way.is.there) (inl way.is.done) in
+          let begin_is = fallen-level a (begin-in_graph g s way.is.there) (inl way.is.done) in
           let gain : level v i -ℤ level v a ≡ rise (bare g) («at» w.potentials) s = omega (arith, ints) in
           record {
             last = s;

@@ -14,8 +14,8 @@ use Rattle.theory.specs.Views.{reversed_items}
 use Rattle.theory.proofs.Ends.{nothing_below, negated-negated}
 use Rattle.theory.proofs.Shape.{Rest, ends, goes_on, Shape, single, long, shape_by_place}
 use Rattle.theory.proofs.Pairs.{later_fits, most_last}
-use Rattle.theory.proofs.ReversedList.{reversed-items_twice, reversed-is_list}
-use Rattle.theory.proofs.ReversedPairs.{reversed-pair, last-reversed}
+use Rattle.theory.proofs.ReversedList.{reversed-is_list}
+use Rattle.theory.proofs.ReversedPairs.{reversed-pair, pair_from_reversed, last-reversed}
 
 -- with a flow and a tension, the next flow is on the pieces too, or the next tension
 data Next (x h : ℤ) (list : List Ext) : Type 0 where
@@ -90,11 +90,6 @@ next_flow items x h list on top = next_in items x h on top (next_for x h (shape_
 pub pair-same : (items : List Ext) (x y v w : ℤ) → IsOnCurve 1 items x v → x ≡ y → v ≡ w → IsOnCurve 1 items y w
 pair-same items x y v w on flows tensions = subst (λ (z : ℤ). IsOnCurve 1 items z w) flows (subst (λ (t : ℤ). IsOnCurve 1 items x t) tensions on)
 
-pair-back : (items : List Ext) (x v : ℤ) → IsCurveList items → IsOnCurve 1 (reversed_items items) x v → IsOnCurve 1 items (neg_ℤ x) (neg_ℤ v)
-pair-back items x v list on =
-    subst (λ (l : List Ext). IsOnCurve 1 l (neg_ℤ x) (neg_ℤ v)) (reversed-items_twice items)
-    (reversed-pair 1 (reversed_items items) x v (reversed-is_list items list) on)
-
 -- at the least tension of a flow the flow before it is on the curve
 pub flow_before : (items : List Ext) (x l : ℤ) → IsCurveList items → IsOnCurve 1 items x l → ¬ (IsOnCurve 1 items x (l -ℤ pos 1))
     → IsOnCurve 1 items (x -ℤ pos 1) l
@@ -102,9 +97,9 @@ flow_before items x l list on bottom =
     let turned = next_flow (reversed_items items) (neg_ℤ x) (neg_ℤ l) (reversed-is_list items list)
     (reversed-pair 1 items x l list on)
     (λ over. bottom (pair-same items (neg_ℤ (neg_ℤ x)) x (neg_ℤ (neg_ℤ l +ℤ pos 1)) (l -ℤ pos 1)
-    (pair-back items (neg_ℤ x) (neg_ℤ l +ℤ pos 1) list over) (omega (arith, ints)) (omega (arith, ints)))) in
+    (pair_from_reversed items (neg_ℤ x) (neg_ℤ l +ℤ pos 1) list over) (omega (arith, ints)) (omega (arith, ints)))) in
     pair-same items (neg_ℤ (neg_ℤ x +ℤ pos 1)) (x -ℤ pos 1) (neg_ℤ (neg_ℤ l)) l
-    (pair-back items (neg_ℤ x +ℤ pos 1) (neg_ℤ l) list turned) (omega (arith, ints)) (omega (arith, ints))
+    (pair_from_reversed items (neg_ℤ x +ℤ pos 1) (neg_ℤ l) list turned) (omega (arith, ints)) (omega (arith, ints))
 
 -- ---- the last and the first point
 

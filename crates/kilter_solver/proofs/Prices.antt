@@ -6,7 +6,7 @@ use Rattle.theory.specs.declared.ext.Ext.TheVariants.{MinusInf, At, PlusInf}
 use Rattle.theory.specs.CurveList.{IsCurveList}
 use Rattle.theory.specs.Readings.{IsUnder, IsOver, IsSlopes}
 use Rattle.theory.specs.Limits.{AreWithin, number_most}
-use Rattle.curve_views.proofs.ReadingBounds.{slopes-within}
+use Rattle.mono_curve.proofs.ReadingBounds.{slopes-within}
 use Rattle.kilter_solver.specs.Along.{IsPrice, price_up, price_down}
 use Rattle.kilter_solver.proofs.NextFlow.{next_flow, flow_before, pair-same}
 

@@ -11,23 +11,19 @@ use Rattle.theory.specs.declared.network.Step.{Step}
 use Rattle.theory.specs.Sums.{counted}
 use Rattle.theory.specs.Limits.{IsWithin}
 use Rattle.theory.specs.OnCurve.{IsOnCurve}
-use Rattle.theory.specs.Network.{Network, «at», tail, head}
+use Rattle.theory.specs.Network.{Network, «at», tail, head, list_at}
 use Rattle.theory.specs.Conserved.{divergence, tension}
 use Rattle.theory.specs.Circuit.{begin_of, end_of}
-use Rattle.theory.proofs.SumsBelow.{sum_below-change}
+use Rattle.theory.proofs.SumsBelow.{sum_below-change, counted-add}
 use Rattle.net_incidence.specs.Graph.{Graph, bare}
 use Rattle.painted_search.specs.Room.{Room}
 use Rattle.painted_search.specs.Writes.{with_flow}
 use Rattle.painted_search.specs.Path.{label_at}
-use Rattle.kilter_solver.specs.Along.{list_at, directed, IsPairAlong, moved}
+use Rattle.kilter_solver.specs.Along.{directed, IsPairAlong, moved}
 use Rattle.kilter_solver.specs.Ready.{AreOnCurves}
 use Rattle.kilter_solver.specs.Routing.{IsOn, IsTight, IsRoute, one_at, IsPushed}
 
 -- ---- the divergence where one flow moves
-
-counted-more : (b : Bool) (x d : ℤ) → counted b (x +ℤ d) ≡ counted b x +ℤ counted b d
-counted-more true x d = refl
-counted-more false x d = omega (arith, ints)
 
 -- for any change d of the flow of arc j
 pub divergence-changed : (net : Network) (x y : ℕ → ℤ) (j : ℕ) (d : ℤ) → j < length net.arcs → ((k : ℕ) → k < length net.arcs → k ≢ j → y k ≡ x k)
@@ -39,8 +35,8 @@ divergence-changed net x y j d there same more i =
     (λ k l other. ap (counted (tail net k == i)) (same k l other)) in
     let into = sum_below-change m j (λ k. counted (head net k == i) (x k)) (λ k. counted (head net k == i) (y k)) there
     (λ k l other. ap (counted (head net k == i)) (same k l other)) in
-    let at_tail = ap (counted (tail net j == i)) more ∙ counted-more (tail net j == i) (x j) d in
-    let at_head = ap (counted (head net j == i)) more ∙ counted-more (head net j == i) (x j) d in
+    let at_tail = ap (counted (tail net j == i)) more ∙ counted-add (tail net j == i) (x j) d in
+    let at_head = ap (counted (head net j == i)) more ∙ counted-add (head net j == i) (x j) d in
     omega (arith, ints)
 
 counted-neg : (b : Bool) → counted b (neg_ℤ (pos 1)) ≡ neg_ℤ (counted b (pos 1))

@@ -8,17 +8,18 @@ use Rattle.std.proofs.lemmas.List.{get_or-set_same, get_or-set_other}
 use Rattle.theory.specs.declared.ext.Ext.{Ext}
 use Rattle.theory.specs.declared.network.Step.{Step}
 use Rattle.theory.specs.Limits.{IsWithin, number_most}
-use Rattle.theory.specs.Network.{«at»}
+use Rattle.theory.specs.Network.{«at», list_at}
 use Rattle.theory.specs.Cut.{holds}
 use Rattle.theory.specs.Circuit.{begin_of, end_of}
 use Rattle.net_incidence.specs.Graph.{Graph, bare}
 use Rattle.painted_search.specs.Room.{Room}
 use Rattle.painted_search.specs.Path.{label_at}
-use Rattle.kilter_solver.specs.Along.{list_at, rise, IsPairAlong, moved, IsFinitePrice, IsNoPrice}
+use Rattle.kilter_solver.specs.Along.{rise, IsPairAlong, moved, IsFinitePrice, IsNoPrice}
 use Rattle.kilter_solver.specs.Excess.{excess}
 use Rattle.kilter_solver.specs.Ready.{AreOnCurves, Ready}
 use Rattle.kilter_solver.specs.Spread.{key, level, is_label, is_near, IsTried, WayTo, Spread, IsLater, relaxed, IsImproved, kept, lowered}
-use Rattle.kilter_solver.proofs.Spreading.{near-done, near-label, pair_along, begin_below, end_below}
+use Rattle.net_incidence.proofs.Graphs.{begin-in_graph, end-in_graph}
+use Rattle.kilter_solver.proofs.Spreading.{near-done, near-label, pair_along}
 
 -- ---- what was tried stays tried
 
@@ -305,7 +306,7 @@ step-tried g lists source s v w h z ready there spread waits price offer (kept s
 step-tried g lists source s v w h z ready there spread waits price offer (lowered same fall) =
     subst (λ (r : Room). StepTried g lists source s v r) (sym same)
     (record {
-      spread = spread-relaxed g lists source v s h z spread ready.same_nodes (begin_below g s there) (end_below g s there) there ready.on_curves waits price offer fall;
-      later = relaxed-later v (end_of (bare g) s) s z (let e = end_below g s there in omega (arith, ready.same_nodes)) waits fall;
-      tried = tried-relaxed g lists source v s h z spread ready.same_nodes (begin_below g s there) (end_below g s there) there ready.on_curves waits price offer;
+      spread = spread-relaxed g lists source v s h z spread ready.same_nodes (begin-in_graph g s there) (end-in_graph g s there) there ready.on_curves waits price offer fall;
+      later = relaxed-later v (end_of (bare g) s) s z (let e = end-in_graph g s there in omega (arith, ready.same_nodes)) waits fall;
+      tried = tried-relaxed g lists source v s h z spread ready.same_nodes (begin-in_graph g s there) (end-in_graph g s there) there ready.on_curves waits price offer;
     })

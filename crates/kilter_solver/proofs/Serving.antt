@@ -11,12 +11,12 @@ use Rattle.theory.specs.Conserved.{divergence}
 use Rattle.net_incidence.specs.Graph.{Graph, bare}
 use Rattle.painted_search.specs.Room.{Room, count_most}
 use Rattle.painted_search.specs.Writes.{with_scratch}
-use Rattle.painted_search.proofs.Counting.{total_below-same}
-use Rattle.kilter_solver.specs.Excess.{excess, positive_part, surpluses}
+use Rattle.theory.proofs.Counting.{total_below-same, total_below-change}
+use Rattle.kilter_solver.specs.Excess.{excess, surpluses}
+use Rattle.theory.specs.Sums.{positive_part}
 use Rattle.kilter_solver.specs.Ready.{AreOnCurves, Ready}
 use Rattle.kilter_solver.specs.Spread.{key, IsFound, IsSameState}
 use Rattle.kilter_solver.specs.Routing.{one_at, IsFallenBelow, IsPushed, IsBalancing, IsNotFar, IsSent, Routes, IsSafe, fall_most}
-use Rattle.kilter_solver.proofs.Marking.{total_below-change}
 use Rattle.kilter_solver.proofs.Lowering.{fallen-falls, fallen-far, fallen-lacking}
 
 -- ---- surpluses

@@ -10,12 +10,13 @@ use Rattle.net_incidence.specs.Graph.{Graph}
 use Rattle.net_incidence.specs.Incidence.{incident_steps}
 use Rattle.painted_search.specs.Room.{Room}
 use Rattle.painted_search.specs.Writes.{with_mark}
-use Rattle.painted_search.proofs.Degrees.{degrees}
+use Rattle.net_incidence.proofs.Degrees.{degrees}
 use Rattle.kilter_solver.specs.Excess.{excess}
 use Rattle.kilter_solver.specs.Marks.{marked_total}
 use Rattle.kilter_solver.specs.Ready.{Ready}
 use Rattle.kilter_solver.specs.Spread.{Spread, IsSameState, IsLater}
-use Rattle.kilter_solver.proofs.Marking.{holds-set_other, marked_total-set, marked_total-most}
+use Rattle.theory.proofs.Marks.{holds-set_other}
+use Rattle.kilter_solver.proofs.Marking.{marked_total-set, marked_total-most}
 use Rattle.kilter_solver.proofs.Spreading.{near-done, near-below, started, started-alone, ready-same}
 
 abbrev pub degree : Graph → ℕ → ℕ

@@ -10,7 +10,7 @@ use Rattle.std.proofs.lemmas.List.{get_or-set_same, get_or_past, length-replicat
 use Rattle.theory.specs.declared.ext.Ext.{Ext}
 use Rattle.theory.specs.declared.network.Step.{Step}
 use Rattle.theory.specs.Limits.{IsWithin, number_most}
-use Rattle.theory.specs.Network.{«at», tail, head}
+use Rattle.theory.specs.Network.{«at», tail, head, list_at}
 use Rattle.theory.specs.OnCurve.{IsOnCurve}
 use Rattle.theory.specs.Cut.{holds}
 use Rattle.theory.specs.Circuit.{step, begin_of, end_of}
@@ -20,11 +20,13 @@ use Rattle.painted_search.specs.Room.{Room, count_most}
 use Rattle.painted_search.specs.Writes.{with_scratch, with_mark}
 use Rattle.painted_search.specs.Reaching.{begun}
 use Rattle.painted_search.specs.Path.{label_at}
-use Rattle.painted_search.proofs.Degrees.{incident-stands}
-use Rattle.kilter_solver.specs.Along.{list_at, rise, directed, IsPairAlong}
+use Rattle.net_incidence.proofs.Graphs.{begin-in_graph}
+use Rattle.net_incidence.proofs.Degrees.{incident-stands}
+use Rattle.kilter_solver.specs.Along.{rise, directed, IsPairAlong}
 use Rattle.kilter_solver.specs.Ready.{AreOnCurves, IsReady, Ready}
 use Rattle.kilter_solver.specs.Spread.{key, level, is_label, is_near, IsTried, WayTo, Spread, IsSameState, IsNearest, key_most}
-use Rattle.kilter_solver.proofs.Marking.{holds-set_same, holds-set_other, marked_total-set, count-some, count-most}
+use Rattle.theory.proofs.Marks.{holds-set_same, holds-set_other}
+use Rattle.kilter_solver.proofs.Marking.{marked_total-set, count-some, count-most}
 
 -- ---- nodes that were met
 
@@ -52,18 +54,6 @@ pub pair_along : (g : Graph) (lists : List (List Ext)) (x u : List ℤ) (s : Ste
     → IsPairAlong (list_at lists s.arc.0) s.forward («at» x s.arc.0) (rise (bare g) («at» u) s)
 pair_along g lists x u s on there =
     along_for (list_at lists s.arc.0) («at» x s.arc.0) («at» u) (tail (bare g) s.arc.0) (head (bare g) s.arc.0) s.forward (on.pairs s.arc.0 there)
-
-one_below : (n from to : ℕ) (b : Bool) → from < n → to < n → (if b then from else to) < n
-one_below n from to true l h = l
-one_below n from to false l h = h
-
-pub begin_below : (g : Graph) (s : Step) → s.arc.0 < length g.arcs → begin_of (bare g) s < g.nodes
-begin_below g s there =
-    one_below g.nodes (tail (bare g) s.arc.0) (head (bare g) s.arc.0) s.forward (g.good.tails s.arc.0 there) (g.good.heads s.arc.0 there)
-
-pub end_below : (g : Graph) (s : Step) → s.arc.0 < length g.arcs → end_of (bare g) s < g.nodes
-end_below g s there =
-    one_below g.nodes (head (bare g) s.arc.0) (tail (bare g) s.arc.0) s.forward (g.good.heads s.arc.0 there) (g.good.tails s.arc.0 there)
 
 -- ---- the beginning
 
@@ -165,7 +155,7 @@ module _ (g : Graph) (lists : List (List Ext)) (source i : ℕ) (w : Room) (spre
         tried = λ s there done other. ⊎_elim
             (λ (same : begin_of (bare g) s ≡ i). absurd (other same))
             (λ (before : IsTrue (holds w.reached (begin_of (bare g) s))).
-            let old = spread.tried s there before (λ e. let below = begin_below g s there in omega arith) in
+            let old = spread.tried s there before (λ e. let below = begin-in_graph g s there in omega arith) in
             record { pairs = λ t least most. old.pairs t least (λ near. most (settled-near (end_of (bare g) s) ∙ near)) })
             (settled-cases (begin_of (bare g) s) done);
         ranged = λ k near. spread.ranged k (near_back k near);

@@ -1,6 +1,6 @@
 -- Along a step: flow, tension and price over an arc in the direction of a step. The price is the least tension along the
 -- step that the next flow in its direction asks for; a step without a price can't be passed.
-use Rattle.std.specs.Prelude.{ℕ, ℤ, pos, ◌+ℤ◌, ◌-ℤ◌, neg_ℤ, ◌≤ℤ◌, Bool, true, false, Option, Some, None, List, [], ◌∷◌, slice_index_or}
+use Rattle.std.specs.Prelude.{ℕ, ℤ, pos, ◌+ℤ◌, ◌-ℤ◌, neg_ℤ, ◌≤ℤ◌, Bool, true, false, Option, Some, None, List}
 use Rattle.theory.specs.declared.ext.Ext.{Ext}
 use Rattle.theory.specs.declared.ext.Ext.TheVariants.{MinusInf, At, PlusInf}
 use Rattle.theory.specs.declared.network.Step.{Step}
@@ -12,10 +12,6 @@ use Rattle.theory.specs.Limits.{IsWithin, number_most}
 abbrev pub directed : Bool → ℤ → ℤ
 directed true z = z
 directed false z = neg_ℤ z
-
--- the items of arc j
-abbrev pub list_at : List (List Ext) → ℕ → List Ext
-list_at lists j = slice_index_or lists j (At (pos 0) ∷ [])
 
 -- the potential where the step ends less that where it begins
 abbrev pub rise : Network → (ℕ → ℤ) → Step → ℤ

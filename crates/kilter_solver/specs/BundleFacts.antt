@@ -6,7 +6,7 @@ use Rattle.theory.specs.declared.ext.Ext.{Ext}
 use Rattle.theory.specs.CurveList.{IsCurveList}
 use Rattle.theory.specs.Limits.{AreWithin, number_most}
 use Rattle.theory.proofs.Shape.{single, place_of_shape}
-use Rattle.kilter_solver.specs.Along.{list_at}
+use Rattle.theory.specs.Network.{list_at}
 
 -- the greatest number that f gives to one of a list
 abbrev pub greatest : {A : Type 0} → (A → ℕ) → List A → ℕ

@@ -2,15 +2,13 @@
 use Rattle.std.specs.Prelude.{◌≡◌, ◌≢◌, ℕ, ◌==◌, ◌+◌, ◌*◌, ◌^◌, ◌<◌, ◌≤◌, ℤ, pos, ◌+ℤ◌, ◌-ℤ◌, List, length, unsigned_abs}
 use Rattle.theory.specs.declared.ext.Ext.{Ext}
 use Rattle.theory.specs.Limits.{IsWithin, number_most}
-use Rattle.theory.specs.Sums.{counted}
+use Rattle.theory.specs.Sums.{counted, total_below}
 use Rattle.theory.specs.Readings.{IsUnder, IsOver}
 use Rattle.theory.specs.OnCurve.{IsOnCurve}
-use Rattle.theory.specs.Network.{«at», tail, head}
+use Rattle.theory.specs.Network.{«at», tail, head, list_at}
 use Rattle.theory.specs.Conserved.{tension}
 use Rattle.net_incidence.specs.Graph.{Graph, bare}
 use Rattle.painted_search.specs.Room.{Room}
-use Rattle.painted_search.proofs.Counting.{total_below}
-use Rattle.kilter_solver.specs.Along.{list_at}
 use Rattle.kilter_solver.specs.Excess.{excess, AreExcesses, surpluses}
 use Rattle.kilter_solver.specs.Ready.{reach_most}
 

@@ -9,7 +9,8 @@ pub mod Routing
 -- The beginning: flows on their curves
 pub mod Clamping
 -- Certificates of what was found:
+pub mod Kind
+pub mod FeasibleParts
 pub mod Whole
-pub mod CostSum
 -- Curves by the arc:
 pub mod BundleFacts

@@ -1,7 +1,7 @@
 -- Sums over the nodes of a set.
 use Rattle.std.specs.Prelude.{ℕ, Bool, List, if◌then◌else◌}
 use Rattle.theory.specs.Cut.{holds}
-use Rattle.painted_search.proofs.Counting.{total_below}
+use Rattle.theory.specs.Sums.{total_below}
 
 abbrev pub marked : (ℕ → ℕ) → List Bool → ℕ → ℕ
 marked f side i = if holds side i then f i else 0

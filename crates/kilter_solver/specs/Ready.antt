@@ -3,11 +3,10 @@ use Rattle.std.specs.Prelude.{◌≡◌, ℕ, ◌<◌, ◌^◌, ℤ, List, lengt
 use Rattle.theory.specs.declared.ext.Ext.{Ext}
 use Rattle.theory.specs.Limits.{IsWithin, arg_most}
 use Rattle.theory.specs.OnCurve.{IsOnCurve}
-use Rattle.theory.specs.Network.{«at»}
+use Rattle.theory.specs.Network.{«at», list_at}
 use Rattle.theory.specs.Conserved.{tension}
 use Rattle.net_incidence.specs.Graph.{Graph, bare}
 use Rattle.painted_search.specs.Room.{Room}
-use Rattle.kilter_solver.specs.Along.{list_at}
 
 pub record AreOnCurves (g : Graph) (lists : List (List Ext)) (x u : List ℤ) : Type 0 where
   pub pairs : (j : ℕ) → j < length g.arcs → IsOnCurve 1 (list_at lists j) («at» x j) (tension (bare g) («at» u) j)

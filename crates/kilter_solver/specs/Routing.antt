@@ -5,14 +5,14 @@ use Rattle.theory.specs.declared.ext.Ext.{Ext}
 use Rattle.theory.specs.declared.network.Step.{Step}
 use Rattle.theory.specs.Sums.{counted}
 use Rattle.theory.specs.Limits.{IsWithin, number_most, arg_most}
-use Rattle.theory.specs.Network.{«at»}
+use Rattle.theory.specs.Network.{«at», list_at}
 use Rattle.theory.specs.Conserved.{divergence}
 use Rattle.theory.specs.Cut.{holds}
 use Rattle.theory.specs.Circuit.{begin_of, end_of}
 use Rattle.net_incidence.specs.Graph.{Graph, bare}
 use Rattle.painted_search.specs.Room.{Room}
 use Rattle.painted_search.specs.Path.{label_at}
-use Rattle.kilter_solver.specs.Along.{list_at, rise, IsPairAlong, moved}
+use Rattle.kilter_solver.specs.Along.{rise, IsPairAlong, moved}
 use Rattle.kilter_solver.specs.Excess.{excess, AreExcesses, surpluses}
 use Rattle.kilter_solver.specs.Ready.{AreOnCurves}
 use Rattle.kilter_solver.specs.Spread.{key}

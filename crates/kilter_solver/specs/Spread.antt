@@ -7,14 +7,14 @@ use Rattle.theory.specs.declared.ext.Ext.{Ext}
 use Rattle.theory.specs.declared.network.NodeId.{NodeId}
 use Rattle.theory.specs.declared.network.Step.{Step}
 use Rattle.theory.specs.Limits.{IsWithin, number_most}
-use Rattle.theory.specs.Network.{«at»}
+use Rattle.theory.specs.Network.{«at», list_at}
 use Rattle.theory.specs.Cut.{holds}
 use Rattle.theory.specs.Circuit.{begin_of, end_of}
 use Rattle.net_incidence.specs.Graph.{Graph, bare}
 use Rattle.painted_search.specs.Room.{Room}
 use Rattle.painted_search.specs.Writes.{with_scratch, relabelled}
 use Rattle.painted_search.specs.Path.{label_at}
-use Rattle.kilter_solver.specs.Along.{list_at, rise, IsPairAlong, moved}
+use Rattle.kilter_solver.specs.Along.{rise, IsPairAlong, moved}
 use Rattle.kilter_solver.specs.Excess.{excess}
 use Rattle.kilter_solver.specs.Marks.{count_of}
 

@@ -9,7 +9,7 @@ ghost use Rattle.theory.specs.Certificate.{IsOptimalPair, IsPotentialOf, AreNumb
 ghost use Rattle.theory.specs.ReadingBound.{unscaled_unit};
 ghost use Rattle.painted_search.specs.Fits.{Fits};
 ghost use Rattle.painted_search.specs.Writes.{with_potential};
-ghost use Rattle.painted_search.specs.Unpriced.{unpriced, IsPassable};
+ghost use Rattle.net_incidence.specs.WithoutBases.{without_bases, IsPassable};
 ghost use Rattle.kilter_solver.specs.Clamping.{IsBegun, IsGroundedBelow, AreNear, IsCleared};
 
 use crate::bundle::Plain;
@@ -41,12 +41,12 @@ pub fn balance<C: Monotone, L: Ledger>(
     requires passable { IsPassable net.now (length curves.now) }
     requires light { All (λ c. C.weight c ≡ 1) curves.now }
     requires fits { Fits net.now work.old }
-    requires potential { IsFeasiblePotential 1 (unpriced net.now (map C.items curves.now)) work.old.potentials }
+    requires potential { IsFeasiblePotential 1 (without_bases net.now (map C.items curves.now)) work.old.potentials }
     requires near { AreNear net.now.nodes work.old.potentials }
-    ensures pair { result ≡ Balanced.InKilter → IsOptimalPair (unpriced net.now (map C.items curves.now)) work.new.flows work.new.potentials }
+    ensures pair { result ≡ Balanced.InKilter → IsOptimalPair (without_bases net.now (map C.items curves.now)) work.new.flows work.new.potentials }
     ensures flows { result ≡ Balanced.InKilter → AreNumbers (length net.now.arcs) work.new.flows }
-    ensures potentials { result ≡ Balanced.InKilter → IsPotentialOf (unpriced net.now (map C.items curves.now)) work.new.potentials }
-    ensures cut { result ≡ Balanced.Cut → IsNegativeCut (unpriced net.now (map C.items curves.now)) work.new.reached }
+    ensures potentials { result ≡ Balanced.InKilter → IsPotentialOf (without_bases net.now (map C.items curves.now)) work.new.potentials }
+    ensures cut { result ≡ Balanced.Cut → IsNegativeCut (without_bases net.now (map C.items curves.now)) work.new.reached }
     ensures fits { Fits net.now work.new }
     ensures no_fewer { steps.old ≤ steps.new }
     ensures count { steps.new ≤ steps.old + 12 * unscaled_unit net.now.nodes (length net.now.arcs) }

@@ -5,7 +5,7 @@ ghost use Rattle.theory.specs.CurveList.{IsCurveList};
 ghost use Rattle.theory.specs.Readings.{IsSlopes, IsRange};
 ghost use Rattle.theory.specs.Limits.{AreWithin, number_most, arg_most, IsWithin};
 ghost use Rattle.mono_curve.specs.Counted.{IsCounted};
-ghost use Rattle.kilter_solver.specs.Along.{list_at};
+ghost use Rattle.theory.specs.Network.{list_at};
 ghost use Rattle.kilter_solver.specs.BundleFacts.{greatest, all_lists, all_within};
 
 use mono_curve::{Monotone, Steps};

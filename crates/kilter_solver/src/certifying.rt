@@ -8,9 +8,8 @@ ghost use Rattle.cert_text.specs.Shown.{shown};
 ghost use Rattle.net_incidence.specs.declared.sums.Sum.{Sum as EndSum};
 ghost use Rattle.kilter_solver.specs.Whole.{IsWhole};
 
-use crate::pricing::total_cost;
 use cert_text::Certificate;
-use ground_net::Grounded;
+use ground_net::{Grounded, total_cost};
 use net_incidence::{Flows, Marks, Step, Sum, Walk};
 use std::alloc::{AllocError, Global};
 
@@ -70,7 +69,7 @@ pub(crate) fn pair_of(
 }
 
 /// The number of a sum that counts.
-fn number_of(sum: Sum) -> i128
+pub(crate) fn number_of(sum: Sum) -> i128
     requires { IsWhole sum }
     ensures { sum ≡ EndSum.Whole result }
 {

@@ -4,7 +4,7 @@ ghost use Rattle.theory.specs.Limits.{IsWithin, arg_most};
 ghost use Rattle.theory.specs.Network.{«at»};
 ghost use Rattle.theory.specs.Conserved.{tension};
 ghost use Rattle.net_incidence.specs.Graph.{bare};
-ghost use Rattle.kilter_solver.specs.Along.{list_at};
+ghost use Rattle.theory.specs.Network.{list_at};
 ghost use Rattle.painted_search.specs.Writes.{with_scratch};
 ghost use Rattle.kilter_solver.specs.Excess.{excess};
 ghost use Rattle.kilter_solver.specs.Clamping.{HasNear, IsClosest, shift_most, IsLoose, IsClampedBelow, IsClampable, IsClampedOne, IsClosestFlow, IsShifted, word_most};

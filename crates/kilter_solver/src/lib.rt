@@ -5,7 +5,9 @@ mod balancing;
 mod bundle;
 mod certifying;
 mod clamp;
-mod pricing;
+mod cut_test;
+mod feasible;
+mod kilter_test;
 mod routes;
 mod solving;
 mod spread;
@@ -13,8 +15,13 @@ mod words;
 
 pub use balancing::{Balanced, balance};
 pub use bundle::{Bundle, Plain};
+pub use cut_test::is_negative_cut;
+pub use feasible::{FeasibleParts, feasibility};
+pub use kilter_test::is_in_kilter;
 pub use routes::{Routed, route};
 pub use solving::solve;
 
+#[cfg(test)]
+mod solve_tests;
 #[cfg(test)]
 mod tests;

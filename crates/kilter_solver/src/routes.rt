@@ -5,7 +5,7 @@ ghost use Rattle.theory.specs.Network.{«at»};
 ghost use Rattle.theory.specs.Conserved.{IsConserved};
 ghost use Rattle.theory.specs.Cut.{IsNegativeCut, holds};
 ghost use Rattle.painted_search.specs.Writes.{with_flow, with_potential, with_scratch};
-ghost use Rattle.painted_search.specs.Unpriced.{unpriced};
+ghost use Rattle.net_incidence.specs.WithoutBases.{without_bases};
 ghost use Rattle.kilter_solver.specs.Along.{moved};
 ghost use Rattle.kilter_solver.specs.Excess.{excess, surpluses};
 ghost use Rattle.kilter_solver.specs.Ready.{Ready, AreOnCurves, reach_most};
@@ -39,8 +39,8 @@ pub fn route<B: Bundle, L: Ledger>(
     requires balancing { IsBalancing net.now (B.lists bundle.now) work.old }
     requires safe { IsSafe net.now work.old }
     ensures balancing { IsBalancing net.now (B.lists bundle.now) work.new }
-    ensures conserved { result ≡ Routed.Done → IsConserved (unpriced net.now (B.lists bundle.now)) («at» work.new.flows) }
-    ensures cut { result ≡ Routed.Cut → IsNegativeCut (unpriced net.now (B.lists bundle.now)) work.new.reached }
+    ensures conserved { result ≡ Routed.Done → IsConserved (without_bases net.now (B.lists bundle.now)) («at» work.new.flows) }
+    ensures cut { result ≡ Routed.Cut → IsNegativeCut (without_bases net.now (B.lists bundle.now)) work.new.reached }
     ensures routes { Routes net.now work.old work.new }
     ensures no_fewer { steps.old ≤ steps.new }
     ensures count { steps.new ≤ steps.old
@@ -71,7 +71,7 @@ impl<B: Bundle> Routing<'_, B> {
         requires surplus { pos 0 <ℤ excess work.old source.0 }
         ensures balancing { IsBalancing self.now.net.now (B.lists self.now.bundle.now) work.new }
         ensures sent { result ≡ Routed.Done → IsSent self.now.net.now work.old work.new }
-        ensures cut { result ≡ Routed.Cut → IsNegativeCut (unpriced self.now.net.now (B.lists self.now.bundle.now)) work.new.reached }
+        ensures cut { result ≡ Routed.Cut → IsNegativeCut (without_bases self.now.net.now (B.lists self.now.bundle.now)) work.new.reached }
         ensures same { result ≡ Routed.Cut → IsSameState work.old work.new }
         ensures no_fewer { steps.old ≤ steps.new }
         ensures count { steps.new ≤ steps.old + 2 * length self.now.net.now.arcs * B.weight self.now.bundle.now }

@@ -1,7 +1,7 @@
 // Optimal pairs and cuts of small nets, worked by hand.
 ghost use Rattle.std.specs.Prelude.{◌≡◌, ℕ, ◌<◌, pos, IsTrue, length, map};
 ghost use Rattle.theory.specs.Span.{InSpan};
-ghost use Rattle.kilter_solver.specs.Along.{list_at};
+ghost use Rattle.theory.specs.Network.{list_at};
 
 use crate::{Balanced, balance};
 use mono_curve::{Curve, Ext, Monotone, Steps};
@@ -14,7 +14,11 @@ use std::test::Fail;
 use theory::NodeId;
 use theory::pricing::is_between;
 
-fn net_of(rt: &(impl Abort + AllocGlobal), nodes: u32, arcs: &[(u32, u32)]) -> Result<Net, Fail> {
+pub(crate) fn net_of(
+    rt: &(impl Abort + AllocGlobal),
+    nodes: u32,
+    arcs: &[(u32, u32)],
+) -> Result<Net, Fail> {
     let mut net = Net::new(rt.alloc());
     for _ in 0..nodes {
         assert!(rt; net.nodes() < 9);
@@ -28,7 +32,10 @@ fn net_of(rt: &(impl Abort + AllocGlobal), nodes: u32, arcs: &[(u32, u32)]) -> R
     Ok(net)
 }
 
-fn curves_of(rt: &(impl Abort + AllocGlobal), lists: &[[Ext; 3]]) -> Result<Vec<Curve>, Fail> {
+pub(crate) fn curves_of(
+    rt: &(impl Abort + AllocGlobal),
+    lists: &[[Ext; 3]],
+) -> Result<Vec<Curve>, Fail> {
     let mut curves = Vec::new(rt.alloc());
     for items in lists {
         curves.push(Curve::of_list(rt.alloc(), items.as_slice(), 0)?)?;

@@ -30,6 +30,10 @@ pub none_there : {X : Type 0} (answer : Option X) → is_some answer ≡ false �
 none_there None none = refl
 none_there (Some x) none = cc
 
+pub none_left : {X : Type 0} (answer : Option X) → ((x : X) → answer ≡ Some x → ⊥) → answer ≡ None
+none_left None other = refl
+none_left (Some x) other = absurd (other x refl)
+
 pub or_length : {X : Type 0} (p : X → Bool) (xs : List X) → unwrap_or (first_place p xs) (length xs) ≡ position_or_len p xs
 or_length p xs =
     let most : position_or_len p xs ≤ length xs = prefix_len-le-length (λ x. not (p x)) xs in

@@ -7,7 +7,7 @@ use Rattle.theory.specs.CurveList.{Listing, IsCurveList}
 use Rattle.theory.specs.Grounded.{Entries, NodeEntry, ArcEntry}
 use Rattle.model_text.specs.Names.{IsName}
 use Rattle.model_text.specs.Model.{no_entries, node_names, arc_names, place_of, with_node, with_arc, AreNames, IsWithinLimits, IsWellFormed}
-use Rattle.model_text.specs.declared.model.TheConstants.{NODES_MOST, ARCS_MOST}
+use Rattle.theory.specs.Limits.{nodes_most, arcs_most}
 use Rattle.model_text.proofs.Places.{absent}
 
 names_push : (names : List (List ℕ)) (name : List ℕ) → AreNames names → IsName name → place_of names name ≡ None → AreNames (names ++ name ∷ [])
@@ -25,8 +25,8 @@ formed_empty = record {
     heads = λ j d here. absurd (omega arith);
     no_loops = λ j d here. absurd (omega arith);
   };
-  nodes_most = omega arith;
-  arcs_most = omega arith;
+  few_nodes = omega arith;
+  few_arcs = omega arith;
   nodes_named = record { each = λ k d here. absurd (omega arith); differ = λ i j d less here. absurd (omega arith) };
   arcs_named = record { each = λ k d here. absurd (omega arith); differ = λ i j d less here. absurd (omega arith) };
   supplies = λ k d here. absurd (omega arith);
@@ -34,7 +34,7 @@ formed_empty = record {
 }
 
 pub formed_with_node : (m : Entries) (name : List ℕ) (supply : Listing) → IsWellFormed m → IsName name
-    → place_of (node_names m) name ≡ None → length m.nodes < NODES_MOST → IsCurveList supply.items → IsWithinLimits supply
+    → place_of (node_names m) name ≡ None → length m.nodes < nodes_most → IsCurveList supply.items → IsWithinLimits supply
     → IsWellFormed (with_node m name supply)
 formed_with_node m name supply formed named none room list small =
     let longer = length_push m.nodes (record { name = name; supply = supply }) in
@@ -46,8 +46,8 @@ formed_with_node m name supply formed named none room list small =
         heads = λ j d here. omega (arith, formed.model.heads j d here, longer);
         no_loops = formed.model.no_loops;
       };
-      nodes_most = omega (arith, longer);
-      arcs_most = formed.arcs_most;
+      few_nodes = omega (arith, longer);
+      few_arcs = formed.few_arcs;
       nodes_named = subst AreNames (sym (map_push (λ (node : NodeEntry). node.name) m.nodes _)) (names_push (node_names m) name formed.nodes_named named none);
       arcs_named = formed.arcs_named;
       supplies = All-push (λ (node : NodeEntry). IsWithinLimits node.supply) m.nodes _ formed.supplies small;
@@ -55,7 +55,7 @@ formed_with_node m name supply formed named none room list small =
     }
 
 pub formed_with_arc : (m : Entries) (name : List ℕ) (tail head : ℕ) (curve : Listing) → IsWellFormed m → IsName name
-    → place_of (arc_names m) name ≡ None → length m.arcs < ARCS_MOST → tail < length m.nodes → head < length m.nodes → tail ≢ head
+    → place_of (arc_names m) name ≡ None → length m.arcs < arcs_most → tail < length m.nodes → head < length m.nodes → tail ≢ head
     → IsCurveList curve.items → IsWithinLimits curve
     → IsWellFormed (with_arc m name tail head curve)
 formed_with_arc m name tail head curve formed named none room tail_there head_there apart list small =
@@ -68,8 +68,8 @@ formed_with_arc m name tail head curve formed named none room tail_there head_th
         heads = All-push (λ (arc : ArcEntry). arc.to < length m.nodes) m.arcs _ formed.model.heads head_there;
         no_loops = All-push (λ (arc : ArcEntry). arc.from ≢ arc.to) m.arcs _ formed.model.no_loops apart;
       };
-      nodes_most = formed.nodes_most;
-      arcs_most = omega (arith, longer);
+      few_nodes = formed.few_nodes;
+      few_arcs = omega (arith, longer);
       nodes_named = formed.nodes_named;
       arcs_named = subst AreNames (sym (map_push (λ (arc : ArcEntry). arc.name) m.arcs _)) (names_push (arc_names m) name formed.arcs_named named none);
       supplies = formed.supplies;

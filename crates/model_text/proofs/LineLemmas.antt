@@ -1,20 +1,23 @@
 -- The parts of a line: its keyword, its names, its list, and what stands from `base` on.
-use Rattle.std.specs.Prelude.{◌≡◌, ℕ, ◌-◌, ◌<◌, min, Bool, true, false, not, ◌||◌, ◌≤◌, nat_lt, is_none, unwrap_or, pos, if◌then◌else◌, Option, None, Some, List, [], ◌∷◌, length, take, drop, map, codes, refl}
+use Rattle.std.specs.Prelude.{◌≡◌, ℕ, ◌+◌, ◌-◌, ◌++◌, ◌<◌, min, Bool, true, false, not, ◌||◌, nat_lt, is_none, unwrap_or, pos, if◌then◌else◌, Option, None, Some, List, [], ◌∷◌, length, take, drop, map, codes, refl}
 use Rattle.std.specs.Borrow.{Bor}
 use Rattle.std.specs.List.{position_or_len, list_all, list_any}
 use Rattle.std.specs.Str.{bytes_eq}
-use Rattle.std.proofs.Common.{arith, sym, ◌∙◌, ap, get_or}
-use Rattle.std.proofs.lemmas.List.{take_min, drop_min, take_rest, take-map, drop-map, length-map}
+use Rattle.std.specs.Option.{option_map}
+use Rattle.std.proofs.Common.{arith, sym, ◌∙◌, ap, get_or, append_assoc}
+use Rattle.std.proofs.lemmas.List.{take_min, drop_min, drop_more, take_rest, take-map, drop-map, length-map}
 use Rattle.std.proofs.lemmas.List.Folds.{list_all-map}
 use Rattle.std.proofs.lemmas.Slice.Eq.{bytes_eq-Decides}
+use Rattle.model_text.specs.declared.fault.FaultWord.TheVariants.{Number}
 use Rattle.model_text.specs.declared.line.Kind.{Kind}
 use Rattle.model_text.specs.declared.line.Kind.TheVariants.{Node, Arc}
-use Rattle.model_text.specs.ModelText.{is_node_line, is_arc_line, is_base_word, line_names, list_words, base_words, names_wanted, body, list_count, lacks_names, lacks_numbers, is_no_base, line_items, line_base}
+use Rattle.model_text.specs.ModelText.{is_node_line, is_arc_line, is_base_word, line_names, list_words, base_words, names_wanted, body, list_count, lacks_names, line_items, line_base, word_at, first_fault}
 use Rattle.model_text.specs.Names.{is_name}
 use Rattle.model_text.specs.NumberWords.{item_of, number_of}
 use Rattle.model_text.specs.NearNumbers.{near_item}
+use Rattle.theory.specs.declared.ext.Ext.{Ext}
 use Rattle.theory.specs.declared.ext.Ext.TheVariants.{MinusInf}
-use Rattle.model_text.specs.LineParts.{texts, is_node, keyword_kind, AreParts}
+use Rattle.model_text.specs.LineParts.{texts, is_node, keyword_kind, AreParts, item_tests}
 
 node-no-arc : (word : List ℕ) → bytes_eq word (codes "node") ≡ true → bytes_eq word (codes "arc") ≡ false
 node-no-arc word is = let e = (bytes_eq-Decides word (codes "node")).0 is in rw e refl
@@ -99,12 +102,6 @@ unfolding lacks_names
 lacks_names-is names parts =
     rw (← parts.names, parts.node, list_all-map is_name (λ word. word.now) names, length-map) refl
 
-pub lacks_numbers-is : {words names : List (List ℕ)} {kind : Kind} (list base : List (Bor (List ℕ))) → AreParts words kind names (texts list) (texts base)
-    → lacks_numbers words ≡ (list_any (λ word. is_none (item_of word.now)) list || is_no_base (texts base))
-unfolding lacks_numbers
-lacks_numbers-is list base parts =
-    rw (← parts.list, ← parts.base, list_any-texts (λ word. is_none (item_of word)) list) refl
-
 near-items : (list : List (Bor (List ℕ)))
     → map (λ word. near_item (unwrap_or (item_of word.now) MinusInf)) list ≡ map near_item (map (λ word. unwrap_or (item_of word) MinusInf) (texts list))
 near-items [] = refl
@@ -115,20 +112,59 @@ pub line_items-is : {words names base : List (List ℕ)} {kind : Kind} (list : L
 unfolding line_items
 line_items-is list parts = rw (← parts.list) (sym (near-items list))
 
+-- ---- the words of a list, read one after the other
+
+abbrev pub lacks_item : Bor (List ℕ) → Bool
+lacks_item word = is_none (item_of word.now)
+
+abbrev pub near_of : Bor (List ℕ) → Ext
+near_of word = near_item (unwrap_or (item_of word.now) MinusInf)
+
+module _ (words : List (Bor (List ℕ))) (k : ℕ) (d : Bor (List ℕ)) (below : k < length words) where
+  -- a word that is an item
+  pub test-passed : (e : Ext) → option_map near_item (item_of (get_or words k d).now) ≡ Some e
+      → list_any lacks_item (drop (k + 1) words) ≡ list_any lacks_item (drop k words)
+  test-passed e is = sym (ap (list_any lacks_item) (drop_more words k d below) ∙ some-by (item_of (get_or words k d).now) is)
+    where
+      some-by : (found : Option Ext) → option_map near_item found ≡ Some e
+          → (is_none found || list_any lacks_item (drop (k + 1) words)) ≡ list_any lacks_item (drop (k + 1) words)
+      some-by None is = cc
+      some-by (Some x) is = refl
+
+  pub item-added : (items : List Ext) (e : Ext) → option_map near_item (item_of (get_or words k d).now) ≡ Some e
+      → (items ++ e ∷ []) ++ map near_of (drop (k + 1) words) ≡ items ++ map near_of (drop k words)
+  item-added items e is =
+      append_assoc items (e ∷ []) (map near_of (drop (k + 1) words))
+      ∙ ap (λ x. items ++ x ∷ map near_of (drop (k + 1) words)) (sym (item-by (item_of (get_or words k d).now) is))
+      ∙ ap (λ rest. items ++ map near_of rest) (sym (drop_more words k d below))
+    where
+      item-by : (found : Option Ext) → option_map near_item found ≡ Some e → near_item (unwrap_or found MinusInf) ≡ e
+      item-by None is = cc
+      item-by (Some x) is = cc
+
+  -- a word that is none
+  pub test-failed : option_map near_item (item_of (get_or words k d).now) ≡ None → list_any lacks_item (drop k words) ≡ true
+  test-failed none = ap (list_any lacks_item) (drop_more words k d below) ∙ none-by (item_of (get_or words k d).now) none
+    where
+      none-by : (found : Option Ext) → ◌≡◌ {A = Option Ext} (option_map near_item found) None
+          → (is_none found || list_any lacks_item (drop (k + 1) words)) ≡ true
+      none-by None none = refl
+      none-by (Some x) none = cc
+
+-- what the test of a list says of the words that were read
+pub list-fails : (words : List (Bor (List ℕ))) → list_any lacks_item words ≡ true → first_fault (item_tests (texts words)) ≡ Some Number
+list-fails words fails = rw (sym (list_any-texts (λ word. is_none (item_of word)) words) ∙ fails) refl
+
+pub list-passes : (words : List (Bor (List ℕ))) → list_any lacks_item words ≡ false → first_fault (item_tests (texts words)) ≡ None
+list-passes words passes = rw (sym (list_any-texts (λ word. is_none (item_of word)) words) ∙ passes) refl
+
+-- ---- the base
+
+pub line_base-is : {words names list : List (List ℕ)} {kind : Kind} (base : List (List ℕ)) → AreParts words kind names list base
+    → unwrap_or (number_of (word_at base 1)) (pos 0) ≡ line_base words
+unfolding line_base
+line_base-is base parts = rw (← parts.base) refl
+
 -- what a read past the end would give
 abbrev pub nothing : Bor (List ℕ)
 nothing = record { ref_ptr = (0, 0); now = [] }
-
-pub base-absent : {words names list : List (List ℕ)} {kind : Kind} (base : List (Bor (List ℕ))) → AreParts words kind names list (texts base)
-    → length base < 2 → line_base words ≡ pos 0
-unfolding line_base
-base-absent [] parts short = rw (← parts.base) refl
-base-absent (a ∷ []) parts short = rw (← parts.base) refl
-base-absent (a ∷ b ∷ base) parts short = absurd (omega arith)
-
-pub base-there : {words names list : List (List ℕ)} {kind : Kind} (base : List (Bor (List ℕ))) → AreParts words kind names list (texts base)
-    → 2 ≤ length base → line_base words ≡ unwrap_or (number_of (get_or base 1 nothing).now) (pos 0)
-unfolding line_base
-base-there [] parts long = absurd (omega arith)
-base-there (a ∷ []) parts long = absurd (omega arith)
-base-there (a ∷ b ∷ base) parts long = rw (← parts.base) refl

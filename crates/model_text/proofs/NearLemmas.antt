@@ -1,14 +1,11 @@
 -- Digits read one after the other, where a value past the limit stays the first one past it.
-use Rattle.std.specs.Prelude.{◌≡◌, ℕ, ◌+◌, ◌-◌, ◌*◌, ◌<◌, min, true, ◌&&◌, List, [], ◌∷◌, length, drop, Option, None, Some, unwrap_or, refl}
-use Rattle.std.specs.Option.{option_map}
-use Rattle.theory.specs.declared.ext.Ext.{Ext}
-use Rattle.theory.specs.declared.ext.Ext.TheVariants.{MinusInf}
+use Rattle.std.specs.Prelude.{◌≡◌, ℕ, ◌+◌, ◌-◌, ◌*◌, ◌<◌, min, true, ◌&&◌, List, [], ◌∷◌, length, drop}
 use Rattle.std.specs.Str.{all_ascii_digits}
 use Rattle.std.specs.Str.Parse.{digits_value_after}
 use Rattle.std.specs.Char.{digit_value, is_ascii_digit}
 use Rattle.std.proofs.Common.{arith, sym, ◌∙◌, ap, get_or}
 use Rattle.std.proofs.lemmas.List.{drop_more}
-use Rattle.model_text.specs.NearNumbers.{near_digits, near_item}
+use Rattle.model_text.specs.NearNumbers.{near_digits}
 
 -- what digits after those of a number give
 abbrev pub near_after : ℕ → List ℕ → ℕ
@@ -37,8 +34,3 @@ near-step n i digits below is =
 pub digits-drop : (i : ℕ) (digits : List ℕ) → i < length digits
     → all_ascii_digits (drop i digits) ≡ is_ascii_digit (get_or digits i 0) && all_ascii_digits (drop (i + 1) digits)
 digits-drop i digits below = ap all_ascii_digits (drop_more digits i 0 below)
-
--- what isn't there is minus infinity, which stays as it is
-pub near-least : (found : Option Ext) → unwrap_or (option_map near_item found) MinusInf ≡ near_item (unwrap_or found MinusInf)
-near-least None = refl
-near-least (Some e) = refl

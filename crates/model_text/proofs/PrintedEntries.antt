@@ -8,7 +8,7 @@ use Rattle.std.proofs.lemmas.List.{take_at, length-map}
 use Rattle.std.proofs.Math.Seq.{drop-append_seam}
 use Rattle.theory.specs.CurveList.{IsCurveList, Listing}
 use Rattle.theory.specs.Grounded.{Entries, NodeEntry}
-use Rattle.model_text.specs.declared.model.TheConstants.{NODES_MOST, ARCS_MOST, LIST_MOST}
+use Rattle.theory.specs.Limits.{nodes_most, arcs_most, list_most}
 use Rattle.model_text.specs.Model.{IsWithinLimits, node_names, arc_names, place_of, with_node, with_arc}
 use Rattle.model_text.specs.Names.{is_name}
 use Rattle.model_text.specs.ModelText.{first_fault, entry_tests, with_line, line_listing, line_items, line_base, list_words, base_words, list_count, body, line_names, is_node_line, is_arc_line, lacks_names, lacks_numbers, is_beyond, is_full, is_misshapen, has_fall, is_twice, is_unknown, is_loop, is_base_word, word_at}
@@ -60,7 +60,7 @@ module _ (words : List (List ℕ)) (curve : Listing) (limits : IsWithinLimits cu
   in-limits : is_beyond words ≡ false
   unfolding is_beyond
   in-limits =
-      let short : nat_lt LIST_MOST (length (list_words words)) ≡ false =
+      let short : nat_lt list_most (length (list_words words)) ≡ false =
       rw (list-is, length-map curve.items printed_end) (let most = limits.short in grind (arith, nat_tests)) in
       rw (short, items-are, base-are, within-small curve.items limits.items) (base-small curve.base limits.base)
 
@@ -84,11 +84,11 @@ module _ (m : Entries) (node : NodeEntry) (limits : IsWithinLimits node.supply) 
   unfolding with_line is_node_line
   node-adds = ap (with_node m node.name) (listing-read (node_words node) node.supply limits is_list node-body)
 
-  pub node-passes : is_name node.name ≡ true → place_of (node_names m) node.name ≡ None → length m.nodes < NODES_MOST
+  pub node-passes : is_name node.name ≡ true → place_of (node_names m) node.name ≡ None → length m.nodes < nodes_most
       → first_fault (entry_tests m (node_words node)) ≡ None
   unfolding is_node_line is_arc_line lacks_names line_names is_full is_twice is_unknown is_loop
   node-passes named free room =
-      let roomy : nat_le NODES_MOST (length m.nodes) ≡ false = grind (arith, nat_tests) in
+      let roomy : nat_le nodes_most (length m.nodes) ≡ false = grind (arith, nat_tests) in
       rw (
         named,
         numbers-there (node_words node) node.supply limits is_list node-body,
@@ -111,11 +111,11 @@ module _ (m : Entries) (name tail head : List ℕ) (from to : ℕ) (curve : List
   unfolding with_line is_node_line is_arc_line
   arc-adds = rw (listing-read (arc_words name tail head curve) curve limits is_list arc-body, tail_at, head_at) refl
 
-  pub arc-passes : is_name name ≡ true → is_name tail ≡ true → is_name head ≡ true → place_of (arc_names m) name ≡ None → length m.arcs < ARCS_MOST
+  pub arc-passes : is_name name ≡ true → is_name tail ≡ true → is_name head ≡ true → place_of (arc_names m) name ≡ None → length m.arcs < arcs_most
       → bytes_eq tail head ≡ false → first_fault (entry_tests m (arc_words name tail head curve)) ≡ None
   unfolding is_node_line is_arc_line lacks_names line_names is_full is_twice is_unknown is_loop
   arc-passes named tail_named head_named free room apart =
-      let roomy : nat_le ARCS_MOST (length m.arcs) ≡ false = grind (arith, nat_tests) in
+      let roomy : nat_le arcs_most (length m.arcs) ≡ false = grind (arith, nat_tests) in
       let words = arc_words name tail head curve in
       rw (
         named,

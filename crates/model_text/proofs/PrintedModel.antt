@@ -257,7 +257,7 @@ module _ (m : Entries) (formed : IsWellFormed m) where
       (some-words (node-line (node_at m i)) (rw words (omega arith))) refl
       ∙ ap (λ l. first_fault (entry_tests (record { nodes = take i m.nodes; arcs = [] }) l)) words
       ∙ node-passes (record { nodes = take i m.nodes; arcs = [] }) (node_at m i) (formed.supplies i no_node below) (formed.model.supplies i no_node below)
-      (node-named i no_node below) (node-fresh i below) (omega (arith, length-take i m.nodes, formed.nodes_most)))
+      (node-named i no_node below) (node-fresh i below) (omega (arith, length-take i m.nodes, formed.few_nodes)))
 
   ends-apart : (j : ℕ) → j < length m.arcs → bytes_eq (node_at m (arc_at m j).from).name (node_at m (arc_at m j).to).name ≡ false
   ends-apart j below =
@@ -285,7 +285,7 @@ module _ (m : Entries) (formed : IsWellFormed m) where
       ∙ arc-passes (record { nodes = m.nodes; arcs = take j m.arcs }) (arc_at m j).name (node_at m (arc_at m j).from).name (node_at m (arc_at m j).to).name
       (arc_at m j).from (arc_at m j).to (arc_at m j).curve (formed.curves j no_arc below) (formed.model.curves j no_arc below) tail head
       (arc-named j no_arc below) (node-named (arc_at m j).from no_node (formed.model.tails j no_arc below))
-      (node-named (arc_at m j).to no_node (formed.model.heads j no_arc below)) (arc-fresh j below) (omega (arith, length-take j m.arcs, formed.arcs_most))
+      (node-named (arc_at m j).to no_node (formed.model.heads j no_arc below)) (arc-fresh j below) (omega (arith, length-take j m.arcs, formed.few_arcs))
       (ends-apart j below))
 
   lines-count : length lines ≡ suc (length m.nodes + length m.arcs)

@@ -1,22 +1,22 @@
 -- What a line that passes the tests may add to the model: its names are names, and the model has room for it.
-use Rattle.std.specs.Prelude.{◌≡◌, ℕ, zero, suc, ◌<◌, ◌==◌, nat_lt, nat_le, Bool, true, false, not, ◌&&◌, ◌||◌, if◌then◌else◌, Option, None, Some, is_some, List, [], ◌∷◌, ◌++◌, length, take, drop, refl}
+use Rattle.std.specs.Prelude.{◌≡◌, ◌≢◌, ℕ, zero, suc, ◌<◌, ◌==◌, nat_lt, nat_le, Bool, true, false, not, ◌&&◌, ◌||◌, if◌then◌else◌, Option, None, Some, is_some, List, [], ◌∷◌, ◌++◌, length, take, drop, refl}
 use Rattle.std.specs.List.{list_all}
 use Rattle.std.specs.Str.{bytes_eq}
 use Rattle.std.proofs.Common.{arith, get_or, ◌∙◌, sym, ap}
 use Rattle.std.proofs.lemmas.Bool.Decides.{nat_tests}
 use Rattle.std.proofs.lemmas.Bool.{eqb-true}
-use Rattle.std.proofs.lemmas.List.{get_or-take}
+use Rattle.std.proofs.lemmas.List.{get_or-take, length-map}
 use Rattle.std.proofs.lemmas.Grind.{get_or_after_one}
 use Rattle.std.proofs.lemmas.List.Sums.{passes_at_first}
 use Rattle.std.proofs.lemmas.Slice.Eq.{bytes_eq-Decides}
 use Rattle.theory.specs.Grounded.{Entries}
 use Rattle.model_text.specs.declared.fault.FaultWord.{FaultWord}
-use Rattle.model_text.specs.declared.model.TheConstants.{NODES_MOST, ARCS_MOST}
+use Rattle.theory.specs.Limits.{nodes_most, arcs_most}
 use Rattle.model_text.specs.Model.{node_names, arc_names, place_of, node_fault, arc_fault, with_node, with_arc}
 use Rattle.model_text.specs.Names.{is_name}
 use Rattle.model_text.specs.ModelText.{first_fault, entry_tests, word_at, names_wanted, is_node_line, is_arc_line, line_names, line_items, line_listing, lacks_names, lacks_numbers, is_beyond, is_full, is_misshapen, has_fall, is_twice, is_unknown, is_loop, with_line}
 use Rattle.model_text.specs.LineParts.{number_tests, model_tests}
-use Rattle.model_text.proofs.FirstPlace.{found}
+use Rattle.model_text.proofs.FirstPlace.{found, none_there}
 use Rattle.model_text.proofs.ListTests.{neither, false-unless}
 
 -- ---- tests in turn
@@ -37,9 +37,6 @@ alone-first words others none =
     let two = passes (lacks_numbers words) _ _ one.1 in
     let three = passes (is_beyond words) _ _ two.1 in
     (record { names = one.0; numbers = two.0; limit = three.0 }, three.1)
-
-pub passes_alone : (words : List (List ℕ)) → first_fault (number_tests words) ≡ None → PassesAlone words
-passes_alone words none = (alone-first words [] none).0
 
 pub record PassesTogether (m : Entries) (words : List (List ℕ)) : Type 0 where
   pub room : is_full m words ≡ false
@@ -106,7 +103,7 @@ pub node_free : (m : Entries) (words : List (List ℕ)) → is_node_line words �
 unfolding is_twice is_full
 node_free m words node passes =
     let once : is_some (place_of (node_names m) (word_at words 1)) ≡ false = rw node at passes.once in
-    let room : nat_le NODES_MOST (length m.nodes) ≡ false = rw node at (neither (is_node_line words && nat_le NODES_MOST (length m.nodes)) _ passes.room).0 in
+    let room : nat_le nodes_most (length m.nodes) ≡ false = rw node at (neither (is_node_line words && nat_le nodes_most (length m.nodes)) _ passes.room).0 in
     rw (once, room) refl
 
 -- a name that has a place stands there
@@ -129,7 +126,7 @@ pub arc_free : (m : Entries) (words : List (List ℕ)) (from to : ℕ) → is_no
 unfolding is_twice is_full is_loop
 arc_free m words from to node arc passes tail head =
     let once : is_some (place_of (arc_names m) (word_at words 1)) ≡ false = rw node at passes.once in
-    let room : nat_le ARCS_MOST (length m.arcs) ≡ false = rw arc at (neither _ (is_arc_line words && nat_le ARCS_MOST (length m.arcs)) passes.room).1 in
+    let room : nat_le arcs_most (length m.arcs) ≡ false = rw arc at (neither _ (is_arc_line words && nat_le arcs_most (length m.arcs)) passes.room).1 in
     let apart : bytes_eq (word_at words 2) (word_at words 3) ≡ false = rw arc at passes.apart in
     let differ : (from == to) ≡ false = false-unless (from == to) (λ same. clash (node_names m) (word_at words 2) (word_at words 3) from to tail head (eqb-true from to same) apart) in
     rw (once, differ, room) refl
@@ -140,6 +137,49 @@ unfolding is_unknown
 tail_known m words arc known =
     let two : not (is_some (place_of (node_names m) (word_at words 2)) && is_some (place_of (node_names m) (word_at words 3))) ≡ false = rw arc at known in
     both _ _ (yes _ two)
+
+-- ---- whether the ends of an arc are known
+
+module _ (m : Entries) (words : List (List ℕ)) where
+  pub node_known : is_arc_line words ≡ false → is_unknown m words ≡ false
+  unfolding is_unknown
+  node_known arc = rw arc refl
+
+  pub tail_unknown : is_arc_line words ≡ true → place_of (node_names m) (word_at words 2) ≡ None → is_unknown m words ≡ true
+  unfolding is_unknown
+  tail_unknown arc none = rw (arc, none) refl
+
+  pub head_unknown : is_arc_line words ≡ true → place_of (node_names m) (word_at words 3) ≡ None → is_unknown m words ≡ true
+  unfolding is_unknown
+  head_unknown arc none = rw (arc, none) (by (is_some (place_of (node_names m) (word_at words 2))))
+    where
+      by : (there : Bool) → not (there && false) ≡ true
+      by true = refl
+      by false = refl
+
+  pub ends_known : {from to : ℕ} → is_arc_line words ≡ true → place_of (node_names m) (word_at words 2) ≡ Some from
+      → place_of (node_names m) (word_at words 3) ≡ Some to → is_unknown m words ≡ false
+  unfolding is_unknown
+  ends_known arc tail head = rw (arc, tail, head) refl
+
+-- ---- an entry that has no fault: its name is free, and there is room for it
+
+pub node_room : (m : Entries) (name : List ℕ) → node_fault m name ≡ None → (place_of (node_names m) name ≡ None) × (length m.nodes < nodes_most)
+node_room m name none =
+    let free = passes (is_some (place_of (node_names m) name)) _ _ none in
+    let room = passes (nat_le nodes_most (length m.nodes)) _ _ free.1 in
+    (none_there (place_of (node_names m) name) free.0, grind (arith, nat_tests, room.0))
+
+pub arc_room : (m : Entries) (name : List ℕ) (from to : ℕ) → arc_fault m name from to ≡ None
+    → (place_of (arc_names m) name ≡ None) × (from ≢ to) × (length m.arcs < arcs_most)
+arc_room m name from to none =
+    let free = passes (is_some (place_of (arc_names m) name)) _ _ none in
+    let apart = passes (from == to) _ _ free.1 in
+    let room = passes (nat_le arcs_most (length m.arcs)) _ _ apart.1 in
+    (none_there (place_of (arc_names m) name) free.0, grind (arith, nat_tests, apart.0), grind (arith, nat_tests, room.0))
+
+pub node_there : (m : Entries) (name : List ℕ) (place : ℕ) → place_of (node_names m) name ≡ Some place → place < length m.nodes
+node_there m name place is = rw (length-map) at (found (bytes_eq name) (node_names m) place (sym is)).1
 
 -- ---- what is added
 

@@ -1,7 +1,7 @@
--- A list that passes the tests of a line is a curve list within the limits, and a curve refuses it for want of memory alone.
-use Rattle.std.specs.Prelude.{◌≡◌, ◌≢◌, ℕ, zero, suc, ◌+◌, ◌-◌, ◌%◌, ◌<◌, ◌≤◌, ◌==◌, nat_lt, ℤ, pos, negsuc, Bool, true, false, not, ◌&&◌, ◌||◌, unwrap_or, if◌then◌else◌, IsTrue, List, [], ◌∷◌, length, drop, take, refl}
+-- A list that passes the tests of a line is the list of a curve, within the limits.
+use Rattle.std.specs.Prelude.{◌≡◌, ℕ, zero, suc, ◌+◌, ◌-◌, ◌%◌, ◌<◌, ◌≤◌, ◌==◌, nat_lt, ℤ, pos, negsuc, Bool, true, false, not, ◌&&◌, ◌||◌, unwrap_or, if◌then◌else◌, List, [], ◌∷◌, length, drop, take, refl}
 use Rattle.std.specs.List.{list_any, zip}
-use Rattle.std.proofs.Common.{arith, get_or, ◌∙◌, sym, ap, inl, inr, subst, lit≤, length-take, length-drop}
+use Rattle.std.proofs.Common.{arith, get_or, ◌∙◌, sym, ap, subst, lit≤, length-take, length-drop}
 use Rattle.std.proofs.lemmas.List.{get_or-drop, get_or-take, length-map}
 use Rattle.std.proofs.lemmas.Slice.Zip.{get_or-zip, length-zip}
 use Rattle.theory.proofs.Bounds.{within_more}
@@ -11,11 +11,8 @@ use Rattle.theory.specs.declared.ext.Ext.{Ext}
 use Rattle.theory.specs.declared.ext.Ext.TheVariants.{MinusInf, At, PlusInf}
 use Rattle.theory.specs.CurveList.{IsCurveList, item}
 use Rattle.theory.specs.Ends.{IsFinite, IsBelow, is_finite, is_below, whole}
-use Rattle.theory.specs.Limits.{number_most, base_most, AreWithin, IsWithin}
-use Rattle.mono_curve.specs.Faults.{may_stand, IsPlaced, Rises, IsFault}
-use Rattle.mono_curve.specs.declared.fault.CurveFault.{CurveFault}
-use Rattle.mono_curve.specs.declared.fault.CurveFault.TheVariants.{Even, Long, Infinite, Magnitude, Order, NoMemory}
-use Rattle.model_text.specs.declared.model.TheConstants.{LIST_MOST}
+use Rattle.theory.specs.Limits.{number_most, base_most, AreWithin, IsWithin, list_most}
+use Rattle.mono_curve.specs.CurveValue.{IsValidCurve}
 use Rattle.model_text.specs.ModelText.{is_over, are_over, is_misplaced, is_minus_inf, is_plus_inf, has_fall, is_beyond, is_misshapen, is_node_line, line_items, line_base, list_words, line_listing}
 use Rattle.model_text.specs.NumberWords.{item_of}
 use Rattle.model_text.proofs.ListTests.{neither, none-at}
@@ -23,7 +20,7 @@ use Rattle.model_text.proofs.ListTests.{neither, none-at}
 -- the tests of a list, passed
 pub record IsSound (items : List Ext) : Type 0 where
   pub small : are_over items ≡ false
-  pub short : length items ≤ LIST_MOST
+  pub short : length items ≤ list_most
   pub odd : length items % 2 ≡ 1
   pub placed : is_misplaced items ≡ false
   pub single : (length items == 1 && not (is_finite (item items 0))) ≡ false
@@ -72,19 +69,6 @@ rises-by items rising k below =
     truly true none = refl
     truly false none = cc
 
-last-by : (k count : ℕ) → k < count → (k + 1 < count → ⊥) → k + 1 ≡ count
-last-by k count below none = omega arith
-
-stands : (e : Ext) (count k : ℕ) → k < count → count % 2 ≡ 1 → (0 < k → is_minus_inf e ≡ false) → (k + 1 < count → is_plus_inf e ≡ false)
-    → (count ≡ 1 → k ≡ 0 → IsFinite e) → IsTrue (may_stand e count k)
-stands MinusInf count zero below odd minus plus single =
-    let more : count ≢ 1 = λ one. cc (single one refl) in grind (arith, nat_tests)
-stands MinusInf count (suc k) below odd minus plus single = cc (minus (omega arith))
-stands (At a) count k below odd minus plus single = refl
-stands PlusInf count k below odd minus plus single =
-    let last : k + 1 ≡ count = last-by k count below (λ less. cc (plus less)) in
-    let more : count ≢ 1 = λ one. cc (single one (omega arith)) in grind (arith, nat_tests)
-
 pub sound-list : (items : List Ext) → IsSound items → IsCurveList items
 sound-list items sound = record {
   odd = sound.odd;
@@ -93,29 +77,17 @@ sound-list items sound = record {
   single_finite = single-finite items sound.single;
 }
 
-pub sound-placed : (items : List Ext) → IsSound items → (k : ℕ) → k < length items → IsPlaced items k
-sound-placed items sound k below =
-    stands (item items k) (length items) k below sound.odd (λ after. not-minus items sound.placed k after below) (not-plus items sound.placed k)
-    (λ one first. rw first (single-finite items sound.single one))
-
 pub sound-small : (items : List Ext) → IsSound items → AreWithin number_most items
 sound-small items sound k below = within (whole (item items k)) (none-at (λ e. is_over (whole e)) items sound.small k MinusInf below)
 
-sound-rises : (items : List Ext) → IsSound items → (k : ℕ) → k < length items → Rises items k
-sound-rises items sound k below after =
-    let rises = rises-by items sound.rising (k - 2) (omega arith) in
-    let there : k - 2 + 2 ≡ k = omega arith in
-    rw there at rises
-
--- no fault of a curve but the want of memory
-pub only_memory : (items : List Ext) (base : ℤ) → IsSound items → IsWithin number_most base → (fault : CurveFault) → IsFault items base fault → fault ≡ NoMemory
-only_memory items base sound small Even is = absurd (omega (arith, sound.odd))
-only_memory items base sound small Long is = absurd (omega (arith, sound.short, is.1))
-only_memory items base sound small (Infinite k) is = absurd (is.1.fails (sound-placed items sound k is.1.there))
-only_memory items base sound small (Magnitude k) (placed, inl first) = absurd (first.fails (sound-small items sound k first.there))
-only_memory items base sound small (Magnitude k) (placed, inr large) = absurd (large.2 (within_more 1000000 base_most base (lit≤ tt) small))
-only_memory items base sound small (Order k) is = absurd (is.3.fails (sound-rises items sound k is.3.there))
-only_memory items base sound small NoMemory is = refl
+-- the list and the base are those of a curve
+pub sound-curve : (items : List Ext) (base : ℤ) → IsSound items → IsWithin number_most base → IsValidCurve (record { items = items; base = base })
+sound-curve items base sound small = record {
+  is_list = sound-list items sound;
+  short = omega (arith, sound.short);
+  items_within = sound-small items sound;
+  base_within = within_more number_most base_most base (lit≤ tt) small;
+}
 
 -- ---- the list of a line, where it passes
 
@@ -128,7 +100,7 @@ filled-some e items =
     let some : (length (e ∷ items) == 0) ≡ false = grind (arith, nat_tests) in
     ap (λ b. if b then At (pos 0) ∷ [] else e ∷ items) some
 
-pub sound-filled : (items : List Ext) (is_node : Bool) → nat_lt LIST_MOST (length items) ≡ false → are_over items ≡ false
+pub sound-filled : (items : List Ext) (is_node : Bool) → nat_lt list_most (length items) ≡ false → are_over items ≡ false
     → (length items % 2 == 0 && not (is_node && length items == 0)) ≡ false → is_misplaced items ≡ false
     → (length items == 1 && not (is_finite (item items 0))) ≡ false → has_fall items ≡ false → IsSound (filled items)
 unfolding has_fall
@@ -154,15 +126,15 @@ module _ (words : List (List ℕ)) (limit : is_beyond words ≡ false) (shape : 
   pub sound-line : IsSound (line_listing words).items
   unfolding is_beyond is_misshapen line_listing
   sound-line =
-      let one = neither (nat_lt LIST_MOST (length (list_words words)) || are_over (line_items words)) (is_over (line_base words)) limit in
-      let two = neither (nat_lt LIST_MOST (length (list_words words))) (are_over (line_items words)) one.0 in
+      let one = neither (nat_lt list_most (length (list_words words)) || are_over (line_items words)) (is_over (line_base words)) limit in
+      let two = neither (nat_lt list_most (length (list_words words))) (are_over (line_items words)) one.0 in
       let three = neither ((length (line_items words) % 2 == 0 && not (is_node_line words && length (line_items words) == 0)) || is_misplaced (line_items words)) _ shape in
       let four = neither _ (is_misplaced (line_items words)) three.0 in
       sound-filled (line_items words) (is_node_line words) (rw (items-count words) two.0) two.1 four.0 four.1 three.1 order
 
   pub sound-base : IsWithin number_most (line_listing words).base
   unfolding is_beyond line_listing
-  sound-base = within (line_base words) (neither (nat_lt LIST_MOST (length (list_words words)) || are_over (line_items words)) (is_over (line_base words)) limit).1
+  sound-base = within (line_base words) (neither (nat_lt list_most (length (list_words words)) || are_over (line_items words)) (is_over (line_base words)) limit).1
 
 pub listing-is : (words : List (List ℕ)) → line_listing words ≡ record { items = filled (line_items words); base = line_base words }
 unfolding line_listing

@@ -2,28 +2,23 @@
 -- well-formed, and a line keeps the model so. A line without words adds nothing, nor does the header. Any other line
 -- adds a node or an arc: the tests that it passes say that its name is a name and not taken, that there is room, that its
 -- list is a curve list within the limits, and that the ends of an arc are two different nodes that are there.
-use Rattle.std.specs.Prelude.{◌≡◌, ◌≢◌, ℕ, zero, suc, ◌+◌, ◌<◌, ◌≤◌, ◌==◌, nat_le, Bool, true, false, not, ◌||◌, None, Some, is_some, List, [], length, take, drop, refl}
+use Rattle.std.specs.Prelude.{◌≡◌, ℕ, zero, suc, ◌+◌, ◌≤◌, Bool, true, false, not, ◌||◌, None, List, [], length, take, drop, refl}
 use Rattle.std.specs.Str.{is_utf8}
 use Rattle.std.specs.List.{list_any}
 use Rattle.std.proofs.Common.{arith, get_or, sym, subst, ◌∙◌, add-one}
 use Rattle.std.proofs.lemmas.Bool.Decides.{nat_tests}
-use Rattle.std.proofs.lemmas.List.{drop_more, take_all, length-map}
-use Rattle.std.specs.Str.{bytes_eq}
+use Rattle.std.proofs.lemmas.List.{drop_more, take_all}
 use Rattle.theory.specs.Grounded.{Entries}
-use Rattle.model_text.specs.declared.model.TheConstants.{NODES_MOST, ARCS_MOST}
 use Rattle.model_text.specs.Lines.{text_lines, line_words}
-use Rattle.model_text.specs.Model.{node_names, arc_names, place_of, IsWithinLimits, IsWellFormed}
+use Rattle.model_text.specs.Model.{node_names, place_of, IsWithinLimits, IsWellFormed}
 use Rattle.model_text.specs.ModelText.{NoFaultBefore, first_fault, line_tests, entries_of, with_line, has_words, is_header, is_node_line, is_arc_line, line_listing, word_at}
 use Rattle.model_text.specs.ModelTextLaws.{SpelledIsFormedLaw}
-use Rattle.model_text.proofs.FirstPlace.{found, some_there, none_there}
+use Rattle.model_text.proofs.FirstPlace.{some_there}
 use Rattle.model_text.proofs.Forming.{formed_empty, formed_with_node, formed_with_arc}
 use Rattle.model_text.proofs.SoundLists.{IsSound, sound-line, sound-base, sound-list, sound-small}
-use Rattle.model_text.proofs.SoundLines.{passes, yes, PassesAll, passes_all, first_is_name, node_free, arc_free, tail_known, adds_node, adds_arc}
+use Rattle.model_text.proofs.SoundLines.{passes, yes, PassesAll, passes_all, first_is_name, node_free, arc_free, node_room, arc_room, node_there, tail_known, adds_node, adds_arc}
 use Rattle.model_text.proofs.ReadLemmas.{begins, goes_on, blank_adds, header_adds}
 use Rattle.model_text.proofs.LinesLemmas.{entries-after, fault-here}
-
-node-there : (m : Entries) (name : List ℕ) (place : ℕ) → place_of (node_names m) name ≡ Some place → place < length m.nodes
-node-there m name place is = rw (length-map) at (found (bytes_eq name) (node_names m) place (sym is)).1
 
 -- ---- a line that passes every test
 
@@ -40,25 +35,20 @@ module _ (m : Entries) (formed : IsWellFormed m) (words : List (List ℕ)) (pass
 
   formed-node : is_node_line words ≡ true → IsWellFormed (with_line m words)
   formed-node node =
-      let free = passes (is_some (place_of (node_names m) (word_at words 1))) _ _ (node_free m words node passed.together) in
-      let room = passes (nat_le NODES_MOST (length m.nodes)) _ _ free.1 in
+      let room = node_room m (word_at words 1) (node_free m words node passed.together) in
       subst IsWellFormed (sym (adds_node m words node))
       (formed_with_node m (word_at words 1) (line_listing words) formed (first_is_name words passed.alone.names)
-      (none_there (place_of (node_names m) (word_at words 1)) free.0) (grind (arith, nat_tests, room.0)) (sound-list (line_listing words).items sound) small)
+      room.0 room.1 (sound-list (line_listing words).items sound) small)
 
   formed-arc : is_node_line words ≡ false → is_arc_line words ≡ true → IsWellFormed (with_line m words)
   formed-arc node arc =
       let known = tail_known m words arc passed.together.known in
       let tail = some_there (place_of (node_names m) (word_at words 2)) known.0 in
       let head = some_there (place_of (node_names m) (word_at words 3)) known.1 in
-      let free = passes (is_some (place_of (arc_names m) (word_at words 1))) _ _ (arc_free m words tail.0 head.0 node arc passed.together tail.1 head.1) in
-      let apart = passes (tail.0 == head.0) _ _ free.1 in
-      let room = passes (nat_le ARCS_MOST (length m.arcs)) _ _ apart.1 in
-      let differ : tail.0 ≢ head.0 = grind (arith, nat_tests, apart.0) in
+      let room = arc_room m (word_at words 1) tail.0 head.0 (arc_free m words tail.0 head.0 node arc passed.together tail.1 head.1) in
       subst IsWellFormed (sym (adds_arc m words tail.0 head.0 node arc tail.1 head.1))
       (formed_with_arc m (word_at words 1) tail.0 head.0 (line_listing words) formed (first_is_name words passed.alone.names)
-      (none_there (place_of (arc_names m) (word_at words 1)) free.0) (grind (arith, nat_tests, room.0))
-      (node-there m (word_at words 2) tail.0 tail.1) (node-there m (word_at words 3) head.0 head.1) differ
+      room.0 room.2 (node_there m (word_at words 2) tail.0 tail.1) (node_there m (word_at words 3) head.0 head.1) room.1
       (sound-list (line_listing words).items sound) small)
 
   formed-entry : IsWellFormed (with_line m words)

@@ -1,5 +1,5 @@
 -- What the tables answer, said of the model's entries.
-use Rattle.std.proofs.Common.{◌≡◌, ◌≢◌, ℕ, suc, ◌<◌, Bool, false, if◌then◌else◌, List, [], ◌∷◌, ◌++◌, length, get_or, map, position, bytes_eq, Option, None, is_some, Result, Ok, Err, OnOk, OnErr, refl, sym, ap, subst, ◌∙◌, arith}
+use Rattle.std.proofs.Common.{◌≡◌, ◌≢◌, ℕ, suc, ◌<◌, Bool, false, if◌then◌else◌, List, [], ◌∷◌, ◌++◌, length, get_or, map, position, bytes_eq, None, Result, Ok, Err, OnOk, OnErr, refl, sym, ap, subst, ◌∙◌, arith}
 use Rattle.std.specs.Prelude.{nat_eq}
 use Rattle.std.specs.Cmp.Lexicographic.{pointwise}
 use Rattle.std.specs.declared.vec.Vec.{Vec}
@@ -11,8 +11,7 @@ use Rattle.model_text.specs.declared.model.Joining.{Joining}
 use Rattle.model_text.specs.Model.{place_of, node_names, arc_names, with_node, with_arc, IsWithinLimits, IsWellFormed}
 use Rattle.model_text.specs.ModelTables.{node_entry, arc_entry, table_entries}
 use Rattle.model_text.specs.Names.{IsName}
-use Rattle.model_text.specs.declared.model.TheConstants.{NODES_MOST, ARCS_MOST}
-use Rattle.model_text.proofs.FirstPlace.{none_there}
+use Rattle.theory.specs.Limits.{nodes_most, arcs_most}
 use Rattle.model_text.proofs.Forming.{formed_with_node, formed_with_arc}
 use Rattle.model_text.proofs.Places.{positions_agree, fails_where_none}
 
@@ -55,7 +54,7 @@ module _ {A : Type 0} where
   -- the model stays well-formed with the row that a name without a place adds
   pub node_keeps : (nodes : List (Vec ℕ A × Curve)) (arcs : List (Vec ℕ A × Joining)) (key : Vec ℕ A) (supply : Curve)
       → IsWellFormed (table_entries nodes arcs) → IsName key.items → place_of (node_names (table_entries nodes arcs)) key.items ≡ None
-      → length nodes < NODES_MOST → IsWithinLimits supply.listing
+      → length nodes < nodes_most → IsWithinLimits supply.listing
       → IsWellFormed (table_entries (insert_entry same_key nodes key supply) arcs)
   node_keeps nodes arcs key supply formed named none room small =
       subst IsWellFormed (sym (node_inserted nodes arcs key supply none))
@@ -63,7 +62,7 @@ module _ {A : Type 0} where
 
   pub arc_keeps : (nodes : List (Vec ℕ A × Curve)) (arcs : List (Vec ℕ A × Joining)) (key : Vec ℕ A) (joining : Joining)
       → IsWellFormed (table_entries nodes arcs) → IsName key.items → place_of (arc_names (table_entries nodes arcs)) key.items ≡ None
-      → length arcs < ARCS_MOST → joining.from < length (map node_entry nodes) → joining.to < length (map node_entry nodes) → joining.from ≢ joining.to
+      → length arcs < arcs_most → joining.from < length (map node_entry nodes) → joining.to < length (map node_entry nodes) → joining.from ≢ joining.to
       → IsWithinLimits joining.curve.listing
       → IsWellFormed (table_entries nodes (insert_entry same_key arcs key joining))
   arc_keeps nodes arcs key joining formed named none room tail_there head_there apart small =
@@ -75,8 +74,6 @@ pub either_way : {T E X : Type 0} (P : X → Type 0) (r : Result T E) (old new f
 either_way P (Ok x) old new further ok err was will = subst P (sym ok) will
 either_way P (Err e) old new further ok err was will = subst P (sym err) was
 
--- the answer of a look-up that found nothing, said of the key and of the names as the tables have them
-pub free : (answer : Option ℕ) (names told : List (List ℕ)) (key name said : List ℕ) → is_some answer ≡ false → answer ≡ place_of told said
-    → said ≡ name → key ≡ name → names ≡ told → place_of names key ≡ None
-free answer names told key name said none was is key_is same =
-    ap (λ l. place_of l key) same ∙ ap (place_of told) (key_is ∙ sym is) ∙ sym was ∙ none_there answer none
+-- a name without a place, said of the key and of the names as the tables have them
+pub free : (names told : List (List ℕ)) (key name : List ℕ) → place_of told name ≡ None → key ≡ name → names ≡ told → place_of names key ≡ None
+free names told key name none key_is same = ap (λ l. place_of l key) same ∙ ap (place_of told) key_is ∙ none

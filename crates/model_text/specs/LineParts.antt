@@ -1,5 +1,6 @@
 -- The parts of a line as the reader keeps them.
-use Rattle.std.specs.Prelude.{◌≡◌, ℕ, Bool, true, false, not, if◌then◌else◌, Option, None, Some, Result, Ok, Err, List, [], ◌∷◌, map, codes}
+use Rattle.std.specs.Prelude.{◌≡◌, ℕ, Bool, true, false, not, if◌then◌else◌, is_none, Option, None, Some, Result, Ok, Err, List, [], ◌∷◌, map, codes}
+use Rattle.std.specs.List.{list_any}
 use Rattle.std.specs.Str.{bytes_eq}
 use Rattle.std.specs.Borrow.{Bor}
 use Rattle.model_text.specs.declared.line.Kind.{Kind}
@@ -9,7 +10,9 @@ use Rattle.model_text.specs.declared.fault.FaultWord.{FaultWord}
 use Rattle.model_text.specs.declared.fault.FaultWord.TheVariants.{Name, Number, Limit, Shape, Order, Twice, Unknown, Loop}
 use Rattle.model_text.specs.declared.fault.Refusal.{Refusal}
 use Rattle.model_text.specs.declared.fault.Refusal.TheVariants.{Fault, NoMemory}
-use Rattle.model_text.specs.ModelText.{is_node_line, is_arc_line, line_names, list_words, base_words, first_fault, lacks_names, lacks_numbers, is_beyond, is_full, is_misshapen, line_items, has_fall, is_twice, is_unknown, is_loop}
+use Rattle.model_text.specs.Model.{node_names, place_of}
+use Rattle.model_text.specs.NumberWords.{item_of}
+use Rattle.model_text.specs.ModelText.{is_node_line, is_arc_line, line_names, list_words, base_words, word_at, first_fault, lacks_names, lacks_numbers, is_beyond, is_full, is_misshapen, line_items, has_fall, is_twice, is_unknown, is_loop}
 
 abbrev pub texts : List (Bor (List ℕ)) → List (List ℕ)
 texts words = map (λ word. word.now) words
@@ -25,12 +28,20 @@ pub record AreParts (words : List (List ℕ)) (kind : Kind) (named listed based 
   pub list : listed ≡ list_words words
   pub base : based ≡ base_words words
 
+-- the positions of the nodes that an arc's line names
+pub record AreEnds (m : Entries) (words : List (List ℕ)) (from to : ℕ) : Type 0 where
+  pub tail : is_arc_line words ≡ true → place_of (node_names m) (word_at words 2) ≡ Some from
+  pub head : is_arc_line words ≡ true → place_of (node_names m) (word_at words 3) ≡ Some to
+
 abbrev pub keyword_kind : List ℕ → Option Kind
 keyword_kind word = if bytes_eq word (codes "node") then Some Node else (if bytes_eq word (codes "arc") then Some Arc else None)
 
 -- ---- how far the reader is with a line
 
--- the tests that need no model, and those that need it
+-- the test of the words of a list; the tests that need no model, and those that need it
+abbrev pub item_tests : List (List ℕ) → List (Bool × FaultWord)
+item_tests words = (list_any (λ word. is_none (item_of word)) words, Number) ∷ []
+
 abbrev pub number_tests : List (List ℕ) → List (Bool × FaultWord)
 number_tests words = (lacks_names words, Name) ∷ (lacks_numbers words, Number) ∷ (is_beyond words, Limit) ∷ []
 

@@ -2,11 +2,10 @@
 use Rattle.std.specs.Prelude.{◌≢◌, ℕ, ◌≤◌, Option, None, Some, is_some, nat_le, ◌==◌, if◌then◌else◌, pos, List, [], ◌∷◌, ◌++◌, map, length, position, slice_index_or, All, AllPairs, bytes_eq}
 use Rattle.theory.specs.CurveList.{Listing}
 use Rattle.theory.specs.Grounded.{Entries, NodeEntry, ArcEntry, IsModel}
-use Rattle.theory.specs.Limits.{AreWithin, number_most, IsWithin}
+use Rattle.theory.specs.Limits.{AreWithin, number_most, IsWithin, nodes_most, arcs_most, list_most}
 use Rattle.model_text.specs.Names.{IsName}
 use Rattle.model_text.specs.declared.model.AddFault.{AddFault}
 use Rattle.model_text.specs.declared.model.AddFault.TheVariants.{Twice, Loop, Full}
-use Rattle.model_text.specs.declared.model.TheConstants.{NODES_MOST, ARCS_MOST, LIST_MOST}
 
 abbrev pub node_names : Entries → List (List ℕ)
 node_names m = map (λ node. node.name) m.nodes
@@ -42,13 +41,13 @@ with_arc m name tail head curve =
 abbrev pub node_fault : Entries → List ℕ → Option AddFault
 node_fault m name =
     if is_some (place_of (node_names m) name) then Some Twice
-    else (if nat_le NODES_MOST (length m.nodes) then Some Full else None)
+    else (if nat_le nodes_most (length m.nodes) then Some Full else None)
 
 abbrev pub arc_fault : Entries → List ℕ → ℕ → ℕ → Option AddFault
 arc_fault m name tail head =
     if is_some (place_of (arc_names m) name) then Some Twice
     else (if tail == head then Some Loop
-    else (if nat_le ARCS_MOST (length m.arcs) then Some Full else None))
+    else (if nat_le arcs_most (length m.arcs) then Some Full else None))
 
 -- ---- what every model keeps
 
@@ -59,14 +58,14 @@ pub record AreNames (names : List (List ℕ)) : Type 0 where
 
 -- a curve that a line of a model text can spell
 pub record IsWithinLimits (curve : Listing) : Type 0 where
-  pub short : length curve.items ≤ LIST_MOST
+  pub short : length curve.items ≤ list_most
   pub items : AreWithin number_most curve.items
   pub base : IsWithin number_most curve.base
 
 pub record IsWellFormed (m : Entries) : Type 0 where
   pub model : IsModel m
-  pub nodes_most : length m.nodes ≤ NODES_MOST
-  pub arcs_most : length m.arcs ≤ ARCS_MOST
+  pub few_nodes : length m.nodes ≤ nodes_most
+  pub few_arcs : length m.arcs ≤ arcs_most
   pub nodes_named : AreNames (node_names m)
   pub arcs_named : AreNames (arc_names m)
   pub supplies : All (λ node. IsWithinLimits node.supply) m.nodes

@@ -8,8 +8,7 @@ use Rattle.theory.specs.declared.ext.Ext.TheVariants.{MinusInf, At, PlusInf}
 use Rattle.theory.specs.Ends.{is_finite, is_below, whole}
 use Rattle.theory.specs.CurveList.{Listing, item}
 use Rattle.theory.specs.Grounded.{Entries}
-use Rattle.theory.specs.Limits.{number_most}
-use Rattle.model_text.specs.declared.model.TheConstants.{NODES_MOST, ARCS_MOST, LIST_MOST}
+use Rattle.theory.specs.Limits.{number_most, nodes_most, arcs_most, list_most}
 use Rattle.model_text.specs.Model.{node_names, arc_names, place_of, no_entries, with_node, with_arc}
 use Rattle.model_text.specs.declared.fault.FaultWord.{FaultWord}
 use Rattle.model_text.specs.declared.fault.FaultWord.TheVariants.{Utf8, Header, Keyword, Name, Number, Limit, Shape, Order, Twice, Unknown, Loop}
@@ -113,12 +112,12 @@ lacks_numbers words = list_any (λ word. is_none (item_of word)) (list_words wor
 -- too long a list; a number beyond the limit
 unfoldable pub is_beyond : List (List ℕ) → Bool
 is_beyond words =
-    nat_lt LIST_MOST (length (list_words words)) || are_over (line_items words) || is_over (line_base words)
+    nat_lt list_most (length (list_words words)) || are_over (line_items words) || is_over (line_base words)
 
 -- the model has no room for what the line adds
 unfoldable pub is_full : Entries → List (List ℕ) → Bool
 is_full m words =
-    (is_node_line words && nat_le NODES_MOST (length m.nodes)) || (is_arc_line words && nat_le ARCS_MOST (length m.arcs))
+    (is_node_line words && nat_le nodes_most (length m.nodes)) || (is_arc_line words && nat_le arcs_most (length m.arcs))
 
 -- minus infinity stands elsewhere than in front, plus infinity elsewhere than at the end
 abbrev pub is_misplaced : List Ext → Bool

@@ -1,7 +1,7 @@
 // A line after the header: its tests, and what it adds to the model.
-ghost use Rattle.std.specs.Prelude.{◌≡◌, IfOk, OnOk};
+ghost use Rattle.std.specs.Prelude.{◌≡◌, is_none, IfSome, IfOk, OnOk};
 ghost use Rattle.model_text.specs.ModelText.{entry_tests, first_fault, with_line, line_items, line_base, is_full, is_misshapen, is_twice, is_unknown, is_loop};
-ghost use Rattle.model_text.specs.LineParts.{texts, number_tests, model_tests, Passes};
+ghost use Rattle.model_text.specs.LineParts.{texts, number_tests, model_tests, AreEnds, Passes};
 
 use crate::addition::add;
 use crate::bytes::are_same;
@@ -21,10 +21,12 @@ pub(crate) fn read_entry(alloc: Global, model: &mut Model, words: &[&[u8]]) -> R
         return Err(Refusal::Fault(FaultWord::Keyword));
     };
     let numbers = read_numbers(alloc, &line)?;
-    if let Some(word) = model_fault(model, &line, &numbers.items) {
+    let ends = ends_of(model, &line);
+    if let Some(word) = model_fault(model, &line, &numbers.items, ends.is_none()) {
         return Err(Refusal::Fault(word));
     }
-    add(alloc, model, &line, &numbers).map_err(|_| Refusal::NoMemory)
+    let ends = ends.unwrap();
+    add(alloc, model, &line, numbers, ends).map_err(|_| Refusal::NoMemory)
 }
 
 /// The items and the base of a line.
@@ -43,16 +45,13 @@ fn read_numbers(alloc: Global, line: &Line<'_>) -> Result<Numbers, Refusal>
     if line.lacks_names() {
         return Err(Refusal::Fault(FaultWord::Name));
     }
-    if line.lacks_numbers() {
+    let items = line.items(alloc)?;
+    let Some(base) = line.base() else {
         return Err(Refusal::Fault(FaultWord::Number));
-    }
+    };
     if line.is_long() {
         return Err(Refusal::Fault(FaultWord::Limit));
     }
-    let Ok(items) = line.items(alloc) else {
-        return Err(Refusal::NoMemory);
-    };
-    let base = line.base();
     if items::are_over(&items) {
         return Err(Refusal::Fault(FaultWord::Limit));
     }
@@ -62,9 +61,10 @@ fn read_numbers(alloc: Global, line: &Line<'_>) -> Result<Numbers, Refusal>
     Ok(Numbers { items, base })
 }
 
-/// The first test of those that need the model which the line fails.
-fn model_fault(model: &Model, line: &Line<'_>, items: &[Ext]) -> Option<FaultWord>
-    requires { items.now ≡ line_items (texts line.now.words.now) }
+/// The first test of those that need the model which the line fails, where it is known whether a node is unknown.
+fn model_fault(model: &Model, line: &Line<'_>, items: &[Ext], unknown: bool) -> Option<FaultWord>
+    requires items { items.now ≡ line_items (texts line.now.words.now) }
+    requires unknown { unknown ≡ is_unknown model.now.entries (texts line.now.words.now) }
     ensures { result ≡ first_fault (model_tests model.now.entries (texts line.now.words.now)) }
 {
     if is_full(model, line) {
@@ -75,7 +75,7 @@ fn model_fault(model: &Model, line: &Line<'_>, items: &[Ext]) -> Option<FaultWor
         Some(FaultWord::Order)
     } else if is_twice(model, line) {
         Some(FaultWord::Twice)
-    } else if is_unknown(model, line) {
+    } else if unknown {
         Some(FaultWord::Unknown)
     } else if is_loop(line) {
         Some(FaultWord::Loop)
@@ -111,13 +111,17 @@ fn is_twice(model: &Model, line: &Line<'_>) -> bool
     }
 }
 
-fn is_unknown(model: &Model, line: &Line<'_>) -> bool
-    ensures { result ≡ is_unknown model.now.entries (texts line.now.words.now) }
+/// The ends of an arc by their positions, or nothing where one is unknown. A node has none, so these stand for them.
+fn ends_of(model: &Model, line: &Line<'_>) -> Option<(u32, u32)>
+    ensures unknown { is_none result ≡ is_unknown model.now.entries (texts line.now.words.now) }
+    ensures ends { IfSome result (λ ends. AreEnds model.now.entries (texts line.now.words.now) ends.0 ends.1) }
 {
     match line.kind {
-        Kind::Node => false,
+        Kind::Node => Some((0, 0)),
         Kind::Arc => {
-            model.node_of(line.word(2)).is_none() || model.node_of(line.word(3)).is_none()
+            let from = model.node_of(line.word(2))?;
+            let to = model.node_of(line.word(3))?;
+            Some((from, to))
         }
     }
 }

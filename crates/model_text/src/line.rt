@@ -1,17 +1,19 @@
 // A line after the header, by its words.
-ghost use Rattle.std.specs.Prelude.{◌≡◌, ◌==◌, ◌≤◌, ◌%◌, not, nat_lt, ◌&&◌, ◌||◌, IsNone, IfSome, IfOk, is_none, unwrap_or, map, length, if◌then◌else◌, true, false};
-ghost use Rattle.std.specs.List.{position_or_len, list_all, list_any};
-ghost use Rattle.model_text.specs.ModelText.{is_node_line, is_arc_line, is_base_word, list_words, word_at, lacks_names, lacks_numbers, is_no_base, line_items, line_base};
+ghost use Rattle.std.specs.Prelude.{◌≡◌, ◌==◌, ◌≤◌, ◌%◌, pos, not, nat_lt, ◌&&◌, ◌||◌, IsNone, IfSome, IfOk, is_none, unwrap_or, map, length, if◌then◌else◌, true, false};
+ghost use Rattle.std.specs.List.{position_or_len, list_all};
+ghost use Rattle.theory.specs.Limits.{list_most};
+ghost use Rattle.model_text.specs.ModelText.{is_node_line, is_arc_line, is_base_word, list_words, word_at, lacks_names, is_no_base, base_words, line_items, line_base};
 ghost use Rattle.model_text.specs.Names.{is_name};
-ghost use Rattle.model_text.specs.NumberWords.{item_of};
+ghost use Rattle.model_text.specs.NumberWords.{item_of, number_of};
 ghost use Rattle.model_text.specs.NearNumbers.{near_item, near_number};
-ghost use Rattle.model_text.specs.LineParts.{texts, is_node, keyword_kind, AreParts};
+ghost use Rattle.model_text.specs.LineParts.{texts, is_node, keyword_kind, AreParts, item_tests, Passes};
 
 use crate::bytes::are_same;
+use crate::fault::{FaultWord, Refusal};
 use crate::model::LIST_MOST;
 use crate::name::is_name;
-use crate::numbers::{is_no_item, item_or_least, number, number_or_zero};
-use std::alloc::{AllocError, Global};
+use crate::numbers::{item, number};
+use std::alloc::Global;
 use theory::Ext;
 
 #[derive(Clone, Copy, PartialEq, Eq)]
@@ -68,14 +70,8 @@ impl<'a> Line<'a> {
         self.names.len() < self.kind.names_wanted() || !are_names(self.names)
     }
 
-    pub(crate) fn lacks_numbers(&self) -> bool
-        ensures { result ≡ lacks_numbers (texts self.now.words.now) }
-    {
-        has_no_item(self.list) || is_no_base(self.base)
-    }
-
     pub(crate) fn is_long(&self) -> bool
-        ensures { result ≡ nat_lt LIST_MOST (length (list_words (texts self.now.words.now))) }
+        ensures { result ≡ nat_lt list_most (length (list_words (texts self.now.words.now))) }
     {
         self.list.len() > LIST_MOST
     }
@@ -90,21 +86,20 @@ impl<'a> Line<'a> {
         }
     }
 
-    /// The items of the list. Numbers beyond the limit come as the first number beyond it.
-    pub(crate) fn items(&self, alloc: Global) -> Result<Vec<Ext>, AllocError>
-        ensures { IfOk result (λ items. items.items ≡ map near_item (line_items (texts self.now.words.now))) }
+    /// The items of the list, where each word of it is one. Numbers beyond the limit come as the first number beyond it.
+    pub(crate) fn items(&self, alloc: Global) -> Result<Vec<Ext>, Refusal>
+        ensures tests { Passes (item_tests (list_words (texts self.now.words.now))) result }
+        ensures items { IfOk result (λ items. items.items ≡ map near_item (line_items (texts self.now.words.now))) }
     {
         items_of(alloc, self.list)
     }
 
-    /// The base, as the items come.
-    pub(crate) fn base(&self) -> i64
-        ensures { result ≡ near_number (line_base (texts self.now.words.now)) }
+    /// The base as the items come, or nothing where `base` isn't followed by one number alone.
+    pub(crate) fn base(&self) -> Option<i64>
+        ensures none { is_none result ≡ is_no_base (base_words (texts self.now.words.now)) }
+        ensures base { IfSome result (λ base. base ≡ near_number (line_base (texts self.now.words.now))) }
     {
-        match self.base {
-            [_, word, ..] => number_or_zero(word),
-            _ => 0,
-        }
+        base_of(self.base)
     }
 }
 
@@ -114,27 +109,32 @@ fn are_names(words: &[&[u8]]) -> bool
     words.iter().all(|word| is_name(word))
 }
 
-fn has_no_item(words: &[&[u8]]) -> bool
-    ensures { result ≡ list_any (λ word. is_none (item_of word.now)) words.now }
+/// The items that the words are, each parsed once, in a vector with room for one at least.
+fn items_of(alloc: Global, words: &[&[u8]]) -> Result<Vec<Ext>, Refusal>
+    ensures tests { Passes (item_tests (texts words.now)) result }
+    ensures items { IfOk result (λ items. items.items ≡ map (λ word. near_item (unwrap_or (item_of word.now) Ext.MinusInf)) words.now) }
 {
-    words.iter().any(|word| is_no_item(word))
+    let Ok(mut items) = Vec::with_capacity(alloc, words.len().max(1)) else {
+        return Err(Refusal::NoMemory);
+    };
+    for word in words {
+        let Some(item) = item(word) else {
+            return Err(Refusal::Fault(FaultWord::Number));
+        };
+        items.push_reserved(item);
+    }
+    Ok(items)
 }
 
-/// Whether `base` stands there and isn't followed by one number alone.
-fn is_no_base(words: &[&[u8]]) -> bool
-    ensures { result ≡ is_no_base (texts words.now) }
+fn base_of(words: &[&[u8]]) -> Option<i64>
+    ensures none { is_none result ≡ is_no_base (texts words.now) }
+    ensures base { IfSome result (λ base. base ≡ near_number (unwrap_or (number_of (word_at (texts words.now) 1)) (pos 0))) }
 {
     match words {
-        [] => false,
-        [_, word] => number(word).is_none(),
-        _ => true,
+        [] => Some(0),
+        [_, word] => number(word),
+        _ => None,
     }
-}
-
-fn items_of(alloc: Global, words: &[&[u8]]) -> Result<Vec<Ext>, AllocError>
-    ensures { IfOk result (λ items. items.items ≡ map (λ word. near_item (unwrap_or (item_of word.now) Ext.MinusInf)) words.now) }
-{
-    words.iter().map(|word| item_or_least(word)).collect(alloc)
 }
 
 impl Kind {

@@ -1,12 +1,12 @@
 // The model: nodes with supplies, arcs with curves, and the tables that find them by name.
-ghost use Rattle.std.specs.Prelude.{◌≡◌, ◌≤◌, ◌<◌, length, IfOk, IfSome, OnOk, OnErr, IsOkUnless, MatchOption};
+ghost use Rattle.std.specs.Prelude.{◌≡◌, ◌≤◌, ◌<◌, None, length, IfOk, IfSome, OnOk, OnErr, IsOkUnless, MatchOption};
 ghost use Rattle.model_text.specs.Model.{IsWellFormed};
 ghost use Rattle.model_text.specs.ModelTables.{table_entries};
 
 use crate::name::Name;
 use indexmap::IndexMap;
 use mono_curve::Curve;
-use std::alloc::Global;
+use std::alloc::{AllocError, Global};
 use thiserror::Error;
 
 /// The greatest number of nodes of a model.
@@ -58,7 +58,7 @@ impl std::marker::Model for Model {
 }
 
 impl Model {
-    ghost use Rattle.theory.specs.Limits.{number_most, IsWithin};
+    ghost use Rattle.theory.specs.Limits.{list_most, number_most, IsWithin};
     ghost use Rattle.model_text.specs.Model.{no_entries, with_node, with_arc, node_fault, arc_fault, node_names, arc_names, node_at, arc_at, place_of};
 
     /// A model with no node and no arc.
@@ -73,7 +73,7 @@ impl Model {
 
     /// Adds a node with the curve of its supply, and gives its position.
     pub fn add_node(&mut self, name: Name, supply: Curve) -> Result<u32, AddFault>
-        requires short { length supply.listing.items ≤ LIST_MOST }
+        requires short { length supply.listing.items ≤ list_most }
         requires base { IsWithin number_most supply.listing.base }
         ensures position { IfOk result (λ i. i ≡ length self.old.entries.nodes) }
         ensures added { OnOk result (self.new.entries
@@ -85,13 +85,29 @@ impl Model {
         if self.node_of(name.as_slice()).is_some() {
             return Err(AddFault::Twice);
         }
-        let position = self.nodes.len();
-        if position >= NODES_MOST {
+        if self.nodes.len() >= NODES_MOST {
             return Err(AddFault::Full);
         }
+        match self.push_node(name, supply) {
+            Ok(position) => Ok(position),
+            Err(_) => Err(AddFault::NoMemory),
+        }
+    }
+
+    /// Adds a node whose tests were made before.
+    pub(crate) fn push_node(&mut self, name: Name, supply: Curve) -> Result<u32, AllocError>
+        requires free { node_fault self.old.entries name.bytes ≡ None }
+        requires short { length supply.listing.items ≤ list_most }
+        requires base { IsWithin number_most supply.listing.base }
+        ensures position { IfOk result (λ i. i ≡ length self.old.entries.nodes) }
+        ensures added { OnOk result (self.new.entries
+            ≡ with_node self.old.entries name.bytes supply.listing) }
+        ensures err { OnErr result (self.new.entries ≡ self.old.entries) }
+    {
+        let position = self.nodes.len();
         match self.nodes.insert(name.into_vec(), supply) {
             Ok(_) => Ok(position as u32),
-            Err(_) => Err(AddFault::NoMemory),
+            Err(_) => Err(AllocError),
         }
     }
 
@@ -99,7 +115,7 @@ impl Model {
     pub fn add_arc(&mut self, name: Name, from: u32, to: u32, curve: Curve) -> Result<u32, AddFault>
         requires tail { from < length self.old.entries.nodes }
         requires head { to < length self.old.entries.nodes }
-        requires short { length curve.listing.items ≤ LIST_MOST }
+        requires short { length curve.listing.items ≤ list_most }
         requires base { IsWithin number_most curve.listing.base }
         ensures position { IfOk result (λ j. j ≡ length self.old.entries.arcs) }
         ensures added { OnOk result (self.new.entries
@@ -114,16 +130,38 @@ impl Model {
         if from == to {
             return Err(AddFault::Loop);
         }
-        let position = self.arcs.len();
-        if position >= ARCS_MOST {
+        if self.arcs.len() >= ARCS_MOST {
             return Err(AddFault::Full);
         }
-        match self
-            .arcs
-            .insert(name.into_vec(), Joining { from, to, curve })
-        {
-            Ok(_) => Ok(position as u32),
+        match self.push_arc(name, from, to, curve) {
+            Ok(position) => Ok(position),
             Err(_) => Err(AddFault::NoMemory),
+        }
+    }
+
+    /// Adds an arc whose tests were made before.
+    pub(crate) fn push_arc(
+        &mut self,
+        name: Name,
+        from: u32,
+        to: u32,
+        curve: Curve,
+    ) -> Result<u32, AllocError>
+        requires free { arc_fault self.old.entries name.bytes from to ≡ None }
+        requires tail { from < length self.old.entries.nodes }
+        requires head { to < length self.old.entries.nodes }
+        requires short { length curve.listing.items ≤ list_most }
+        requires base { IsWithin number_most curve.listing.base }
+        ensures position { IfOk result (λ j. j ≡ length self.old.entries.arcs) }
+        ensures added { OnOk result (self.new.entries
+            ≡ with_arc self.old.entries name.bytes from to curve.listing) }
+        ensures err { OnErr result (self.new.entries ≡ self.old.entries) }
+    {
+        let position = self.arcs.len();
+        let joining = Joining { from, to, curve };
+        match self.arcs.insert(name.into_vec(), joining) {
+            Ok(_) => Ok(position as u32),
+            Err(_) => Err(AllocError),
         }
     }
 

@@ -1,5 +1,5 @@
 // Words that are numbers, and words that are items of a list.
-ghost use Rattle.std.specs.Prelude.{◌≡◌, is_none, unwrap_or, pos};
+ghost use Rattle.std.specs.Prelude.{◌≡◌};
 ghost use Rattle.std.specs.Option.{option_map};
 ghost use Rattle.model_text.specs.NumberWords.{digits_of, number_of, item_of};
 ghost use Rattle.model_text.specs.NearNumbers.{near_digits, near_number, near_item};
@@ -22,26 +22,6 @@ pub(crate) fn item(word: &[u8]) -> Option<Ext>
     } else {
         number(word).map(|number| Ext::At(number))
     }
-}
-
-pub(crate) fn is_no_item(word: &[u8]) -> bool
-    ensures { result ≡ is_none (item_of word.now) }
-{
-    item(word).is_none()
-}
-
-/// The item, or minus infinity for a word that is none.
-pub(crate) fn item_or_least(word: &[u8]) -> Ext
-    ensures { result ≡ near_item (unwrap_or (item_of word.now) Ext.MinusInf) }
-{
-    item(word).unwrap_or(Ext::MinusInf)
-}
-
-/// The number, or 0 for a word that is none.
-pub(crate) fn number_or_zero(word: &[u8]) -> i64
-    ensures { result ≡ near_number (unwrap_or (number_of word.now) (pos 0)) }
-{
-    number(word).unwrap_or(0)
 }
 
 /// The number that a word is, of any count of digits.

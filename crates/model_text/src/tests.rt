@@ -1,6 +1,6 @@
 // Names and printed models, with values from the format's own description.
 ghost use Rattle.std.specs.Prelude.{◌≤◌, length, IfOk};
-ghost use Rattle.theory.specs.Limits.{number_most, IsWithin};
+ghost use Rattle.theory.specs.Limits.{list_most, number_most, IsWithin};
 
 use crate::{LIST_MOST, Model, NAME_MOST, Name, is_name, print_model};
 use mono_curve::{Curve, Ext};
@@ -27,8 +27,8 @@ fn tells_names(rt: HostRuntime) {
 
 // The curves of the tests lie within a model's limits.
 fn curve(rt: &HostRuntime, items: &[Ext], base: i8) -> Result<Curve, Fail>
-    requires { length items.now ≤ LIST_MOST }
-    ensures short { IfOk result (λ c. length c.listing.items ≤ LIST_MOST) }
+    requires { length items.now ≤ list_most }
+    ensures short { IfOk result (λ c. length c.listing.items ≤ list_most) }
     ensures base { IfOk result (λ c. IsWithin number_most c.listing.base) }
 {
     Ok(Curve::of_list(rt.alloc(), items, i128::from(base))?)

@@ -12,10 +12,11 @@ use Rattle.theory.specs.Ends.{whole, is_below, IsBelow}
 use Rattle.theory.specs.CurveList.{IsCurveList, item}
 use Rattle.theory.specs.Domain.{InDomain}
 use Rattle.theory.specs.Readings.{IsUnder, IsOver, IsSlopes}
+use Rattle.theory.proofs.Ends.{below_asym}
 use Rattle.theory.proofs.Pairs.{tension_of_flow}
 use Rattle.theory.proofs.Places.{first_at}
-use Rattle.mono_curve.specs.ReadingLaws.{SlopesOfPiecesLaw}
-use Rattle.mono_curve.proofs.Stairs.{below_asym, finite_is, later_not_below, earlier_not_above}
+use Rattle.theory.specs.ReadingLaws.{SlopesOfPiecesLaw}
+use Rattle.mono_curve.proofs.Stairs.{finite_is, later_not_below, earlier_not_above}
 use Rattle.mono_curve.proofs.ReadOff.{IsPair, past_below, before_above, least_not_above, most_not_below, first_finite, last_finite, slope_finite, pair_of_curve, curve_of_pair, later_point, earlier_point, clash, last_is, not_above_least, not_below_most}
 
 not_below_self : (e : Ext) → is_below e e ≡ false

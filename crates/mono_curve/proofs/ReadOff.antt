@@ -14,9 +14,10 @@ use Rattle.theory.specs.Ends.{whole, is_finite, IsFinite, is_below, IsBelow, IsA
 use Rattle.theory.specs.CurveList.{IsCurveList, item, first, last, before_last}
 use Rattle.theory.specs.OnCurve.{IsOnCurve}
 use Rattle.theory.specs.Readings.{IsUnder, IsOver, IsSlopes, IsRange}
+use Rattle.theory.proofs.Ends.{below_asym}
 use Rattle.theory.proofs.Places.{first_at, last_at, before_last_at, longer, on_curve_by_pieces, piece_on_curve}
 use Rattle.mono_curve.specs.Halving.{IsTurn, IsSlopeBefore, count_from, is_item_below, is_item_up_to}
-use Rattle.mono_curve.proofs.Stairs.{false_unless, not_true, not_false, below_asym, below_minus, later_not_below, earlier_not_above}
+use Rattle.mono_curve.proofs.Stairs.{false_unless, not_true, not_false, below_minus, later_not_below, earlier_not_above}
 
 -- ---- bounds of numbers by ends, as the order of ends
 

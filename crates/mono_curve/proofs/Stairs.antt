@@ -1,4 +1,9 @@
--- A kept list by places: the order of its items, and a halving search over the points or the slopes.
+-- A kept list by places, and a halving search over its points or its slopes. Points stand at the even places and slopes at the
+-- odd ones, and each kind rises strictly from one place of the kind to the next, so it does from any one to any later one. So
+-- among the items of one kind those below a given end are the first ones: the test turns once. A halving search keeps two
+-- numbers between which it turns. Where the middle item is below the end all before it are too, and the lower number goes one
+-- past the middle; else none from the middle on is, and the upper number comes down to the middle. The items that are not
+-- above the end are the same ones, and one more where the first item that isn't below it is the end itself.
 use Rattle.std.proofs.Common.{◌≡◌, ℕ, zero, suc, ◌+◌, ◌-◌, ◌*◌, ◌<◌, ◌≤◌, Bool, true, false, not, List, length, refl, ap, subst, inl, inr, arith}
 use Rattle.std.proofs.lemmas.Bool.{cases_lt}
 use Rattle.std.proofs.lemmas.Int.{ints}
@@ -6,7 +11,7 @@ use Rattle.theory.specs.declared.ext.Ext.{Ext}
 use Rattle.theory.specs.declared.ext.Ext.TheVariants.{MinusInf, At, PlusInf}
 use Rattle.theory.specs.Ends.{whole, IsFinite, is_below, IsBelow}
 use Rattle.theory.specs.CurveList.{IsCurveList, item}
-use Rattle.theory.proofs.Ends.{below_trans}
+use Rattle.theory.proofs.Ends.{below_trans, below_asym}
 use Rattle.mono_curve.specs.Halving.{IsTurn, count_from, is_item_below, is_item_up_to}
 
 -- ---- the order of ends
@@ -22,15 +27,6 @@ not_true false h = refl
 pub not_false : (b : Bool) → not b ≡ false → b ≡ true
 not_false true h = refl
 not_false false h = cc
-
-pub below_asym : (d e : Ext) → IsBelow d e → is_below e d ≡ false
-below_asym MinusInf MinusInf h = refl
-below_asym MinusInf (At b) h = refl
-below_asym MinusInf PlusInf h = refl
-below_asym (At a) MinusInf h = cc
-below_asym (At a) (At b) h = grind (arith, ints)
-below_asym (At a) PlusInf h = refl
-below_asym PlusInf e h = cc
 
 same_unless_below : (d e : Ext) → is_below d e ≡ false → is_below e d ≡ false → d ≡ e
 same_unless_below MinusInf MinusInf g h = refl

@@ -2,6 +2,7 @@
 use Rattle.std.specs.Prelude.{◌≡◌, ℕ, ◌+◌, ◌-◌, ◌%◌, ◌<◌, ◌≤◌, ◌==◌, nat_le, ℤ, Bool, true, ◌&&◌, ◌⊎◌, IsTrue, Option, None, Some, List, length}
 use Rattle.theory.specs.declared.ext.Ext.{Ext}
 use Rattle.theory.specs.declared.ext.Ext.TheVariants.{MinusInf, At, PlusInf}
+use Rattle.theory.specs.First.{IsFirstFailing}
 use Rattle.theory.specs.Ends.{whole, IsBelow}
 use Rattle.theory.specs.CurveList.{item}
 use Rattle.theory.specs.Limits.{AreWithin, number_most, base_most, IsWithin}
@@ -9,16 +10,10 @@ use Rattle.mono_curve.specs.declared.fault.CurveFault.{CurveFault}
 use Rattle.mono_curve.specs.declared.fault.CurveFault.TheVariants.{Even, Long, Infinite, Magnitude, Order, NoMemory}
 use Rattle.mono_curve.specs.CurveValue.{IsValidCurve, items_most}
 
--- k is the first place below the count that fails
-pub record IsFirstToFail (P : ℕ → Type 0) (count k : ℕ) : Type 0 where
-  pub there : k < count
-  pub fails : ¬ (P k)
-  pub before : (j : ℕ) → j < k → P j
-
--- what a search for it answers
+-- what a search for the first place that fails answers
 abbrev pub IsFirstFailure : (ℕ → Type 0) → ℕ → Option ℕ → Type 0
 IsFirstFailure P count None = (k : ℕ) → k < count → P k
-IsFirstFailure P count (Some k) = IsFirstToFail P count k
+IsFirstFailure P count (Some k) = IsFirstFailing count P k
 
 -- minus infinity may stand first and plus infinity last, in a list of three items or more
 abbrev pub may_stand : Ext → ℕ → ℕ → Bool
@@ -49,14 +44,14 @@ pub record ArePlaced (items : List Ext) : Type 0 where
 -- the place of the first large item, or the length where it is the base that is too large
 abbrev pub IsTooLarge : List Ext → ℤ → ℕ → Type 0
 IsTooLarge items base k =
-    IsFirstToFail (IsSmall items) (length items) k ⊎ ((k ≡ length items) × AreWithin number_most items × (¬ (IsWithin base_most base)))
+    IsFirstFailing (length items) (IsSmall items) k ⊎ ((k ≡ length items) × AreWithin number_most items × (¬ (IsWithin base_most base)))
 
 -- ---- which fault a list has
 
 abbrev pub IsFault : List Ext → ℤ → CurveFault → Type 0
 IsFault items base Even = length items % 2 ≡ 0
 IsFault items base Long = (length items % 2 ≡ 1) × (items_most < length items)
-IsFault items base (Infinite k) = IsSized items × IsFirstToFail (IsPlaced items) (length items) k
+IsFault items base (Infinite k) = IsSized items × IsFirstFailing (length items) (IsPlaced items) k
 IsFault items base (Magnitude k) = ArePlaced items × IsTooLarge items base k
-IsFault items base (Order k) = ArePlaced items × AreWithin number_most items × IsWithin base_most base × IsFirstToFail (Rises items) (length items) k
+IsFault items base (Order k) = ArePlaced items × AreWithin number_most items × IsWithin base_most base × IsFirstFailing (length items) (Rises items) k
 IsFault items base NoMemory = IsValidCurve (record { items = items; base = base })

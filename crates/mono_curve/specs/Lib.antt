@@ -2,7 +2,6 @@
 pub mod CurveValue
 pub mod CurveFacts
 pub mod Faults
--- Readings, their laws and their count:
-pub mod ReadingLaws
+-- Readings, their count and how they are found:
 pub mod Counted
 pub mod Halving

@@ -42,6 +42,25 @@ impl Curve {
         let kept = items.to_vec(alloc).map_err(|_| CurveFault::NoMemory)?;
         Ok(Curve { items: kept, base })
     }
+
+    /// The curve of a list that was tested before. It keeps the list itself and copies nothing.
+    pub fn of_tested(items: Vec<Ext>, base: i128) -> Curve
+        requires { IsValidCurve (record { items = items.items; base = base }) }
+        ensures { result.listing ≡ record { items = items.items; base = base } }
+    {
+        Curve { items, base }
+    }
+
+    /// The curve once more, its list copied in one piece.
+    pub fn copy(&self, alloc: Global) -> Result<Curve, AllocError>
+        ensures { IfOk result (λ c. c.listing ≡ self.now.listing) }
+    {
+        let items = Vec::from_slice(alloc, &self.items)?;
+        Ok(Curve {
+            items,
+            base: self.base,
+        })
+    }
 }
 
 /// The curve with the list and base of another.
@@ -91,8 +110,8 @@ impl Listed for Curve {
 impl Monotone for Curve {
     ghost use Rattle.std.proofs.Common.{lit≤};
     ghost use Rattle.mono_curve.specs.CurveFacts.{short_list};
-    ghost use Rattle.mono_curve.specs.ReadingLaws.{slopes_law, range_law, rise_law};
-    ghost use Rattle.mono_curve.specs.ReadingLaws.{tensions_law, flows_law};
+    ghost use Rattle.theory.proofs.ReadingLaws.{slopes_law, range_law, rise_law};
+    ghost use Rattle.theory.proofs.ReadingLaws.{tensions_law, flows_law};
 
     ghost items = { λ c. c.listing.items };
 

@@ -1,6 +1,6 @@
 // The tests of a list, in their order.
 ghost use Rattle.std.specs.Prelude.{◌≡◌, ◌↔◌, ◌<◌, IsTrue, OnOk, IfErr, length};
-ghost use Rattle.theory.specs.Ends.{whole, is_below};
+ghost use Rattle.theory.specs.Ends.{whole};
 ghost use Rattle.theory.specs.Limits.{number_most, base_most, IsWithin};
 ghost use Rattle.mono_curve.specs.CurveValue.{IsValidCurve};
 ghost use Rattle.mono_curve.specs.Faults.{may_stand, IsPlaced, IsSmall, Rises};
@@ -9,7 +9,7 @@ ghost use Rattle.mono_curve.specs.Faults.{IsFirstFailure, IsFault};
 use crate::fault::CurveFault;
 use crate::limits::{BASE_MOST, ITEMS_MOST, NUMBER_MOST};
 use theory::Ext;
-use theory::pricing::whole_of;
+use theory::pricing::{precedes, whole_of};
 
 // ---- one item
 
@@ -35,13 +35,6 @@ fn is_small_base(base: i128) -> bool
     ensures { IsTrue result ↔ IsWithin base_most base }
 {
     -BASE_MOST <= base && base <= BASE_MOST
-}
-
-/// Whether the end is strictly below the other.
-pub fn precedes(end: Ext, other: Ext) -> bool
-    ensures { result ≡ is_below end other }
-{
-    end < other
 }
 
 // ---- the first place that fails

@@ -5,8 +5,8 @@ ghost use Rattle.theory.specs.Readings.{IsSlopes, IsRange};
 ghost use Rattle.mono_curve.specs.Halving.{IsTurn, count_from, is_item_below, is_item_up_to};
 ghost use Rattle.mono_curve.specs.Halving.{IsSlopeBefore};
 
-use crate::faults::precedes;
 use theory::Ext;
+use theory::pricing::precedes;
 
 /// How many points (from place 0) or slopes (from place 1) are below the end.
 fn count_below(items: &[Ext], start: usize, end: Ext) -> usize

@@ -5,9 +5,8 @@ ghost use Rattle.theory.specs.CurveList.{IsCurveList, first, last};
 ghost use Rattle.theory.specs.Span.{span_low, span_high};
 ghost use Rattle.theory.specs.Readings.{IsSlopes, IsRange};
 ghost use Rattle.theory.specs.Limits.{AreWithin, number_most, arg_most, IsWithin};
+ghost use Rattle.theory.specs.ReadingLaws.{SlopesLaw, RangeLaw, PairsRise, FlowsHaveTensions, TensionsHaveFlows};
 ghost use Rattle.mono_curve.specs.Counted.{IsCounted};
-ghost use Rattle.mono_curve.specs.ReadingLaws.{SlopesLaw, RangeLaw, PairsRise};
-ghost use Rattle.mono_curve.specs.ReadingLaws.{FlowsHaveTensions, TensionsHaveFlows};
 
 use crate::steps::Steps;
 use std::sync::ledger::Ledger;

@@ -18,9 +18,10 @@ use Rattle.cert_text.specs.declared.feasible.FlowPart.TheVariants.{Yes as YesFlo
 use Rattle.cert_text.specs.declared.feasible.TensionPart.{TensionPart}
 use Rattle.cert_text.specs.declared.feasible.TensionPart.TheVariants.{Yes as YesTension, No as NoTension}
 use Rattle.mono_top.specs.Checks.{IsValidText}
-use Rattle.mono_top.specs.FindsFeasible.{FindsFeasible, IsTensionPart, FlowShows, status_of_parts}
+use Rattle.kilter_solver.specs.FeasibleParts.{IsTensionPart, FlowShows}
+use Rattle.mono_top.specs.FindsFeasible.{FindsFeasible, status_of_parts}
 use Rattle.mono_top.specs.Headline.{Concludes, ConcludesCheck, ConcludesFeasible}
-use Rattle.mono_top.proofs.DueLemmas.{IsJudged}
+use Rattle.mono_top.proofs.CheckLemmas.{IsJudged}
 use Rattle.mono_top.specs.declared.status.Status.{Status}
 use Rattle.mono_top.specs.declared.status.Status.TheVariants.{Cut, Circuit, Done, Rejected}
 

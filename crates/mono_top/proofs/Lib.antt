@@ -1,5 +1,7 @@
+pub mod StartLemmas
 pub mod FetchLemmas
 pub mod ModelFileLemmas
-pub mod FeasibleParts
+pub mod CheckLemmas
+pub mod Ends
 pub mod DueLemmas
 pub mod HeadlineLemmas

@@ -1,64 +1,64 @@
 -- When each status comes, by the request and the files that the source holds.
-use Rattle.std.specs.Prelude.{◌≡◌, ◌≢◌, ℕ, List, Option, Some, None, IsSome}
-use Rattle.outside_io.specs.Files.{Files}
-use Rattle.mono_top.specs.Reading.{IsFileWith, AllReadable}
-use Rattle.mono_top.specs.Request.{Request, solve, check, feasible, show_curve, files_of}
+use Rattle.std.specs.Prelude.{◌≡◌, ◌≢◌, ◌⊎◌, ℕ, List, Option, Some, None, IsSome}
+use Rattle.std.specs.Option.{ForSome}
 use Rattle.theory.specs.Grounded.{Entries}
+use Rattle.outside_io.specs.Files.{Files}
+use Rattle.outside_io.specs.Seen.{Outside}
 use Rattle.model_text.specs.declared.fault.FaultWord.{FaultWord}
 use Rattle.model_text.specs.Model.{place_of, arc_names}
 use Rattle.model_text.specs.ModelText.{Spells, IsFirstFault}
 use Rattle.mono_top.specs.Checks.{IsValidText}
+use Rattle.mono_top.specs.Reading.{IsFileWith, AllReadable}
+use Rattle.mono_top.specs.Request.{Request, about_model, Question, check, show_curve, files_of}
 use Rattle.mono_top.specs.declared.status.Status.{Status}
-use Rattle.mono_top.specs.declared.status.Status.TheVariants.{Usage, Missing, ReadFault, WriteFault, TooLong}
+use Rattle.mono_top.specs.declared.status.Status.TheVariants.{Usage, Missing, ReadFault, WriteFault, NoMemory, TooLong}
 
--- a command asked for a model file: this first fault is its text's
+-- the request asks this question about a model file, and P holds of the file's text
+abbrev pub AsksOfText : Files → Question → (List ℕ → Type 0) → Option Request → Type 0
+AsksOfText files question P request = (model : List ℕ) × (request ≡ Some (about_model model question)) × IsFileWith files model P
+
+-- the request asks this question about a file that spells this model
+abbrev pub Asks : Files → Question → Entries → Option Request → Type 0
+Asks files question m request = AsksOfText files question (λ text. Spells text m) request
+
+-- a question is asked about a model file: this first fault is its text's
 abbrev pub AsksFaulty : Files → ℕ → FaultWord → Option Request → Type 0
-AsksFaulty files line word None = ⊥
-AsksFaulty files line word (Some (solve model)) = IsFileWith files model (λ text. IsFirstFault text line word)
-AsksFaulty files line word (Some (check model certificate)) = IsFileWith files model (λ text. IsFirstFault text line word)
-AsksFaulty files line word (Some (feasible model)) = IsFileWith files model (λ text. IsFirstFault text line word)
-AsksFaulty files line word (Some (show_curve model arc)) = IsFileWith files model (λ text. IsFirstFault text line word)
+AsksFaulty files line word request = (question : Question) × AsksOfText files question (λ text. IsFirstFault text line word) request
 
--- `solve` was asked for: the text spells this model
-abbrev pub AsksSolvable : Files → Entries → Option Request → Type 0
-AsksSolvable files m None = ⊥
-AsksSolvable files m (Some (solve model)) = IsFileWith files model (λ text. Spells text m)
-AsksSolvable files m (Some (check model certificate)) = ⊥
-AsksSolvable files m (Some (feasible model)) = ⊥
-AsksSolvable files m (Some (show_curve model arc)) = ⊥
-
--- `check` was asked for: the first file's text spells this model, and the second file has this text, whatever it is
+-- `check` was asked for: the first file spells this model, and the second file has this text, whatever it is
 abbrev pub AsksToCheck : Files → Entries → List ℕ → Option Request → Type 0
-AsksToCheck files m text None = ⊥
-AsksToCheck files m text (Some (solve model)) = ⊥
-AsksToCheck files m text (Some (check model certificate)) =
-    IsFileWith files model (λ bytes. Spells bytes m) × IsFileWith files certificate (λ bytes. bytes ≡ text)
-AsksToCheck files m text (Some (feasible model)) = ⊥
-AsksToCheck files m text (Some (show_curve model arc)) = ⊥
+AsksToCheck files m text request =
+    (certificate : List ℕ) × Asks files (check certificate) m request × IsFileWith files certificate (λ bytes. bytes ≡ text)
 
 -- and that text is not one of a valid certificate
 abbrev pub AsksInvalid : Files → Option Request → Type 0
 AsksInvalid files request = (m : Entries) × (text : List ℕ) × AsksToCheck files m text request × ¬ IsValidText m text
 
--- `feasible` was asked for: the text spells this model
-abbrev pub AsksFeasible : Files → Entries → Option Request → Type 0
-AsksFeasible files m None = ⊥
-AsksFeasible files m (Some (solve model)) = ⊥
-AsksFeasible files m (Some (check model certificate)) = ⊥
-AsksFeasible files m (Some (feasible model)) = IsFileWith files model (λ text. Spells text m)
-AsksFeasible files m (Some (show_curve model arc)) = ⊥
-
--- `curve` was asked for: the text spells a model without an arc of that name
+-- `curve` was asked for, and the model has no arc of that name
 abbrev pub AsksUnknownArc : Files → Option Request → Type 0
-AsksUnknownArc files None = ⊥
-AsksUnknownArc files (Some (solve model)) = ⊥
-AsksUnknownArc files (Some (check model certificate)) = ⊥
-AsksUnknownArc files (Some (feasible model)) = ⊥
-AsksUnknownArc files (Some (show_curve model arc)) = IsFileWith files model (λ text. (m : Entries) × Spells text m × (place_of (arc_names m) arc ≡ None))
+AsksUnknownArc files request =
+    (arc : List ℕ) × (m : Entries) × Asks files (show_curve arc) m request × (place_of (arc_names m) arc ≡ None)
 
 -- a command was asked for, and its files are readable
 abbrev pub IsAnswerable : Files → Option Request → Type 0
 IsAnswerable files request = IsSome request × AllReadable files (files_of request)
+
+-- where the source tells its files and they are such: the status comes, but for a fault of the source, want of memory, or a
+-- fault of the sink
+abbrev pub ComesAlways : Status → (Files → Type 0) → Outside → Status → Type 0
+ComesAlways status Cause outside result = ForSome outside.holds (λ files. Cause files → ¬ outside.faulted
+    → (result ≡ status) ⊎ (result ≡ NoMemory) ⊎ (result ≡ WriteFault))
+
+-- the status and its cause in the files: it comes only there, and there always
+pub record ComesBy (status : Status) (Cause : Files → Type 0) (outside : Outside) (result : Status) : Type 0 where
+  pub only : result ≡ status → ForSome outside.holds Cause
+  pub always : ComesAlways status Cause outside result
+
+-- neither a fault of the source or of the sink nor want of memory ended the call
+pub record IsUnhindered (status : Status) : Type 0 where
+  pub read : status ≢ ReadFault
+  pub written : status ≢ WriteFault
+  pub room : status ≢ NoMemory
 
 -- the call came to the command's own answer: neither the words, nor a file, nor the sink was refused
 pub record GoesThrough (status : Status) : Type 0 where

@@ -1,9 +1,9 @@
 -- What a due status says of the request, of the files, and of the counts.
 use Rattle.std.specs.Prelude.{◌≡◌, ◌≢◌, ℕ, List, Option, None}
 use Rattle.std.specs.Option.{ForSome}
+use Rattle.outside_io.specs.Seen.{Outside}
 use Rattle.model_text.specs.declared.fault.FaultWord.{FaultWord}
-use Rattle.mono_top.specs.Answer.{Outside}
-use Rattle.mono_top.specs.Causes.{AsksFaulty, AsksInvalid, AsksUnknownArc}
+use Rattle.mono_top.specs.Causes.{AsksFaulty, AsksInvalid, AsksUnknownArc, ComesBy}
 use Rattle.mono_top.specs.Reading.{AllReadable, ReachesMissing, ReachesPastMost, ReachesTooLong}
 use Rattle.mono_top.specs.Request.{Request, files_of}
 use Rattle.mono_top.specs.declared.status.Status.{Status}
@@ -24,9 +24,6 @@ pub record IsDue (request : Option Request) (outside : Outside) (status : Status
   pub usage : status ≡ Usage → request ≡ None
   pub usage_always : request ≡ None → status ≡ Usage
   pub of_files : IsDueOfFiles (files_of request) outside status
-  pub refused : (line : ℕ) (word : FaultWord) → status ≡ ModelRefused line word → ForSome outside.holds (λ files. AsksFaulty files line word request)
-  pub refused_always : ForSome outside.holds (λ files. (line : ℕ) (word : FaultWord) → AsksFaulty files line word request → ¬ outside.faulted → status ≡ ModelRefused line word)
-  pub rejected : status ≡ Rejected → ForSome outside.holds (λ files. AsksInvalid files request)
-  pub rejected_always : ForSome outside.holds (λ files. AsksInvalid files request → ¬ outside.faulted → status ≡ Rejected)
-  pub unknown_arc : status ≡ UnknownArc → ForSome outside.holds (λ files. AsksUnknownArc files request)
-  pub unknown_arc_always : ForSome outside.holds (λ files. AsksUnknownArc files request → ¬ outside.faulted → status ≡ UnknownArc)
+  pub refused : (line : ℕ) (word : FaultWord) → ComesBy (ModelRefused line word) (λ files. AsksFaulty files line word request) outside status
+  pub rejected : ComesBy Rejected (λ files. AsksInvalid files request) outside status
+  pub unknown_arc : ComesBy UnknownArc (λ files. AsksUnknownArc files request) outside status

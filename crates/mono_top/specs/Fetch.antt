@@ -5,7 +5,8 @@ use Rattle.std.specs.declared.alloc.AllocError.{AllocError}
 use Rattle.outside_io.specs.Files.{file_of}
 use Rattle.outside_io.specs.Whole.{IsHeld}
 use Rattle.model_text.specs.ModelText.{Spells}
-use Rattle.mono_top.specs.Answer.{Outside, RefusesFile, ReadsThen}
+use Rattle.outside_io.specs.Seen.{Outside}
+use Rattle.mono_top.specs.Answer.{RefusesFile, ReadsThen}
 use Rattle.mono_top.specs.OfModel.{OfModel}
 use Rattle.mono_top.specs.Reading.{file_most}
 use Rattle.mono_top.specs.declared.fetch.Fetched.{Fetched}

@@ -1,7 +1,6 @@
 pub mod Answer
 pub mod Causes
 pub mod Checks
-pub mod Commands
 pub mod CountsReadings
 pub mod Due
 pub mod Ending
@@ -15,5 +14,6 @@ pub mod Replies
 pub mod Request
 pub mod ShowsCurve
 pub mod Solves
+pub mod Starts
 pub mod Status
 pub mod VerdictLines

@@ -1,14 +1,21 @@
--- What a list of words asks for. A new command is one more constructor, and one more line in each definition here.
+-- What a list of words asks for. A further command is one more constructor, and one more line in each definition here.
 use Rattle.std.specs.Prelude.{List, [], ◌∷◌, ℕ, map, codes, Option, Some, None, nat_eq, if◌then◌else◌, string_bytes, String}
 use Rattle.std.specs.Cmp.Lexicographic.{pointwise}
 use Rattle.std.specs.declared.alloc.Global.{Global}
+use Rattle.mono_top.specs.declared.command.Command.{Command}
+use Rattle.mono_top.specs.declared.command.Task.{Task}
+use Rattle.mono_top.specs.declared.command.Task.TheVariants.{Solve, Check, Feasible, Curve}
 
--- what may be asked for, with the names of the files that it is about
+-- what may be asked about a model, with the names of the files that are read after the model's
+pub data Question : Type 0 where
+  solve : Question
+  check : (certificate : List ℕ) → Question
+  feasible : Question
+  show_curve : (arc : List ℕ) → Question
+
+-- what may be asked for, with the name of the first file
 pub data Request : Type 0 where
-  solve : (model : List ℕ) → Request
-  check : (model certificate : List ℕ) → Request
-  feasible : (model : List ℕ) → Request
-  show_curve : (model arc : List ℕ) → Request
+  about_model : (model : List ℕ) (question : Question) → Request
 
 -- the words, each as its bytes
 abbrev pub texts : List (String Global) → List (List ℕ)
@@ -17,21 +24,33 @@ texts words = map string_bytes words
 -- what the words ask for; words that are no command ask for nothing
 abbrev pub request_of : List (List ℕ) → Option Request
 request_of (command ∷ model ∷ []) =
-    if pointwise nat_eq command (codes "solve") then Some (solve model)
-    else (if pointwise nat_eq command (codes "feasible") then Some (feasible model) else None)
+    if pointwise nat_eq command (codes "solve") then Some (about_model model solve)
+    else (if pointwise nat_eq command (codes "feasible") then Some (about_model model feasible) else None)
 request_of (command ∷ model ∷ other ∷ []) =
-    if pointwise nat_eq command (codes "check") then Some (check model other)
-    else (if pointwise nat_eq command (codes "curve") then Some (show_curve model other) else None)
+    if pointwise nat_eq command (codes "check") then Some (about_model model (check other))
+    else (if pointwise nat_eq command (codes "curve") then Some (about_model model (show_curve other)) else None)
 request_of words = None
-
--- the files that are read, in this order
-abbrev pub files_of : Option Request → List (List ℕ)
-files_of None = []
-files_of (Some (solve model)) = model ∷ []
-files_of (Some (check model certificate)) = model ∷ certificate ∷ []
-files_of (Some (feasible model)) = model ∷ []
-files_of (Some (show_curve model arc)) = model ∷ []
 
 -- what the words of a call ask for
 abbrev pub asked : List (String Global) → Option Request
 asked words = request_of (texts words)
+
+-- the files that are read after the model, in this order
+abbrev pub later_files : Question → List (List ℕ)
+later_files (check certificate) = certificate ∷ []
+later_files question = []
+
+-- the files that are read, in this order
+abbrev pub files_of : Option Request → List (List ℕ)
+files_of None = []
+files_of (Some (about_model model question)) = model ∷ later_files question
+
+-- a command of the code as what it asks for
+abbrev pub question_by : Task → Question
+question_by Solve = solve
+question_by (Check certificate) = check certificate.now
+question_by Feasible = feasible
+question_by (Curve arc) = show_curve arc.now
+
+abbrev pub request_by : Command → Request
+request_by command = about_model command.model.now (question_by command.task)

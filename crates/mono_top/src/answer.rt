@@ -1,46 +1,110 @@
 // From the words to the reply: all of the work, and no write.
-ghost use Rattle.std.specs.Prelude.{◌≡◌, None, IfOk};
-ghost use Rattle.outside_io.specs.Counts.{Rose, Counts};
-ghost use Rattle.mono_top.specs.Answer.{outside_of};
-ghost use Rattle.mono_top.specs.CountsReadings.{CountsReadings};
+ghost use Rattle.std.specs.Prelude.{◌≡◌, None, Some, IfOk, IsErr};
+ghost use Rattle.outside_io.specs.Seen.{Moves, since};
+ghost use Rattle.mono_top.specs.Answer.{AnswersModel};
+ghost use Rattle.mono_top.specs.CountsReadings.{CountsReadings, ReadsCurves, ReadsWithin};
 ghost use Rattle.mono_top.specs.Due.{IsDue};
-ghost use Rattle.mono_top.specs.Replies.{Replies};
-ghost use Rattle.mono_top.specs.Request.{asked};
+ghost use Rattle.mono_top.specs.Replies.{Replies, RepliesWith};
+ghost use Rattle.mono_top.specs.Request.{asked, question_by, request_by};
+ghost use Rattle.mono_top.specs.Starts.{StartsFiles, StartsLater};
 
 use crate::check::check;
-use crate::command::{Command, command_of};
+use crate::command::{Command, Task, command_of};
 use crate::feasible::feasible;
+use crate::fetch::{FetchedModel, fetch_model};
 use crate::lines;
 use crate::reply::Reply;
 use crate::show_curve::show_curve;
 use crate::solve::solve;
 use crate::status::Status;
+use model_text::Model;
 use mono_curve::Steps;
 use outside_io::Shelf;
 use std::alloc::{AllocError, Global};
 use std::sync::ledger::Ledger;
 
+/// The reply, and what its status says of the request and of the files.
 pub(crate) fn reply_to<S: Shelf, L: Ledger>(
     alloc: Global,
     words: &[String],
     shelf: &mut S,
     steps: &mut Steps<L>,
 ) -> Result<Reply, AllocError>
-    ensures replies { Replies (asked words.now) (outside_of (S.holds shelf.old) (S.rest shelf.new)
-        (Rose (S.misses shelf.old) (S.misses shelf.new)) (Rose (S.faults shelf.old) (S.faults shelf.new))) result }
-    ensures due { IfOk result (λ reply. IsDue (asked words.now) (outside_of (S.holds shelf.old) (S.rest shelf.new)
-        (Rose (S.misses shelf.old) (S.misses shelf.new)) (Rose (S.faults shelf.old) (S.faults shelf.new))) reply.status) }
-    ensures readings { CountsReadings (asked words.now) (S.holds shelf.old) steps.old steps.new }
+    ensures replies { Replies (asked words.now)
+        (since (S.seen shelf.old) (S.seen shelf.new)) result }
+    ensures due { IfOk result (λ reply.
+        IsDue (asked words.now) (since (S.seen shelf.old) (S.seen shelf.new)) reply.status) }
+    ensures readings { CountsReadings (asked words.now)
+        (S.seen shelf.old).holds steps.old steps.new }
     ensures untouched { asked words.now ≡ None → shelf.new ≡ shelf.old }
-    ensures holds { S.holds shelf.new ≡ S.holds shelf.old }
-    ensures misses { Counts (S.misses shelf.old) (S.misses shelf.new) }
-    ensures faults { Counts (S.faults shelf.old) (S.faults shelf.new) }
+    ensures starts { StartsFiles (asked words.now)
+        (since (S.seen shelf.old) (S.seen shelf.new)) (IsErr result) }
+    ensures moves { Moves (S.seen shelf.old) (S.seen shelf.new) }
+{
+    Ok(do_command(alloc, words, shelf, steps)?)
+}
+
+fn do_command<S: Shelf, L: Ledger>(
+    alloc: Global,
+    words: &[String],
+    shelf: &mut S,
+    steps: &mut Steps<L>,
+) -> Result<Reply, AllocError>
+    ensures replies { Replies (asked words.now)
+        (since (S.seen shelf.old) (S.seen shelf.new)) result }
+    ensures readings { CountsReadings (asked words.now)
+        (S.seen shelf.old).holds steps.old steps.new }
+    ensures untouched { asked words.now ≡ None → shelf.new ≡ shelf.old }
+    ensures starts { StartsFiles (asked words.now)
+        (since (S.seen shelf.old) (S.seen shelf.new)) (IsErr result) }
+    ensures moves { Moves (S.seen shelf.old) (S.seen shelf.new) }
 {
     match command_of(words) {
-        Some(Command::Solve { model }) => Ok(solve(alloc, shelf, model, steps)?),
-        Some(Command::Check { model, certificate }) => Ok(check(alloc, shelf, model, certificate)?),
-        Some(Command::Feasible { model }) => Ok(feasible(alloc, shelf, model, steps)?),
-        Some(Command::Curve { model, arc }) => Ok(show_curve(alloc, shelf, model, arc)?),
+        Some(command) => Ok(of_model(alloc, shelf, command, steps)?),
         None => Ok(Reply::refusal(Status::Usage, lines::usage())),
+    }
+}
+
+/// Fetches the model, and answers what is asked about it.
+fn of_model<S: Shelf, L: Ledger>(
+    alloc: Global,
+    shelf: &mut S,
+    command: Command,
+    steps: &mut Steps<L>,
+) -> Result<Reply, AllocError>
+    ensures replies { Replies (Some (request_by command.entry))
+        (since (S.seen shelf.old) (S.seen shelf.new)) result }
+    ensures readings { ReadsWithin command.entry.model.now (question_by command.entry.task)
+        (S.seen shelf.old).holds steps.old steps.new }
+    ensures starts { StartsFiles (Some (request_by command.entry))
+        (since (S.seen shelf.old) (S.seen shelf.new)) (IsErr result) }
+    ensures moves { Moves (S.seen shelf.old) (S.seen shelf.new) }
+{
+    match fetch_model(alloc, shelf, command.model)? {
+        FetchedModel::Model(model) => Ok(answer(alloc, shelf, &model, command.task, steps)?),
+        FetchedModel::Refused(reply) => Ok(reply),
+    }
+}
+
+/// A further command is one more arm.
+fn answer<S: Shelf, L: Ledger>(
+    alloc: Global,
+    shelf: &mut S,
+    model: &Model,
+    task: Task,
+    steps: &mut Steps<L>,
+) -> Result<Reply, AllocError>
+    ensures answers { RepliesWith
+        (AnswersModel (question_by task.entry) (since (S.seen shelf.old) (S.seen shelf.new))
+        model.now.entries) result }
+    ensures readings { ReadsCurves (question_by task.entry) model.now.entries steps.old steps.new }
+    ensures later { StartsLater (question_by task.entry) (S.seen shelf.old) (S.seen shelf.new) }
+    ensures moves { Moves (S.seen shelf.old) (S.seen shelf.new) }
+{
+    match task {
+        Task::Solve => Ok(solve(alloc, model, steps)?),
+        Task::Check { certificate } => Ok(check(alloc, shelf, model, certificate)?),
+        Task::Feasible => Ok(feasible(alloc, model, steps)?),
+        Task::Curve { arc } => Ok(show_curve(alloc, model, arc)?),
     }
 }

@@ -1,18 +1,16 @@
 // The command `check MODEL CERT`: whether the second file, from anywhere, is the text of a valid certificate of the model.
-ghost use Rattle.std.specs.Prelude.{◌≡◌, ◌≤◌, length, IfOk, Some};
-ghost use Rattle.outside_io.specs.Counts.{Rose, Counts};
+ghost use Rattle.std.specs.Prelude.{◌≡◌, ◌≤◌, ◌∷◌, [], length};
+ghost use Rattle.outside_io.specs.Seen.{Moves, logged, since};
 ghost use Rattle.theory.specs.Certificate.{Fits};
 ghost use Rattle.theory.specs.Grounded.{grounded};
 ghost use Rattle.cert_text.specs.Shown.{shown};
-ghost use Rattle.mono_top.specs.Answer.{ReadsThen, outside_of};
+ghost use Rattle.mono_top.specs.Replies.{RepliesWith};
+ghost use Rattle.mono_top.specs.Answer.{ReadsThen};
 ghost use Rattle.mono_top.specs.Checks.{ChecksText, ChecksCertificate, status_by};
-ghost use Rattle.mono_top.specs.Fetch.{text_of};
 ghost use Rattle.mono_top.specs.declared.lines.Place.{Place as Files};
 ghost use Rattle.mono_top.specs.Reading.{file_most};
-ghost use Rattle.mono_top.specs.Replies.{Replies};
-ghost use Rattle.mono_top.specs.Request.{check as check_request};
 
-use crate::fetch::{Fetched, FetchedModel, fetch, fetch_model};
+use crate::fetch::{Fetched, fetch};
 use crate::lines::Place;
 use crate::reply::{Reply, Text};
 use crate::status::Status;
@@ -24,37 +22,19 @@ use model_text::Model;
 use outside_io::Shelf;
 use std::alloc::{AllocError, Global};
 
-/// The model's text is tested before the second file is started.
+/// Reads the second file: the model's text has been tested before it is started.
 pub(crate) fn check<S: Shelf>(
-    alloc: Global,
-    shelf: &mut S,
-    model: &str,
-    certificate: &str,
-) -> Result<Reply, AllocError>
-    ensures replies { Replies (Some (check_request model.now certificate.now)) (outside_of (S.holds shelf.old) (S.rest shelf.new)
-        (Rose (S.misses shelf.old) (S.misses shelf.new)) (Rose (S.faults shelf.old) (S.faults shelf.new))) result }
-    ensures holds { S.holds shelf.new ≡ S.holds shelf.old }
-    ensures misses { Counts (S.misses shelf.old) (S.misses shelf.new) }
-    ensures faults { Counts (S.faults shelf.old) (S.faults shelf.new) }
-{
-    match fetch_model(alloc, shelf, model)? {
-        FetchedModel::Model(model) => Ok(answer_model(alloc, shelf, &model, certificate)?),
-        FetchedModel::Refused(reply) => Ok(reply),
-    }
-}
-
-/// Reads the second file.
-fn answer_model<S: Shelf>(
     alloc: Global,
     shelf: &mut S,
     model: &Model,
     certificate: &str,
 ) -> Result<Reply, AllocError>
-    ensures reads { IfOk result (λ reply. ReadsThen Files.Second certificate.now (ChecksText model.now.entries) (outside_of (S.holds shelf.old) (S.rest shelf.new)
-        (Rose (S.misses shelf.old) (S.misses shelf.new)) (Rose (S.faults shelf.old) (S.faults shelf.new))) reply.status (text_of reply.text)) }
-    ensures holds { S.holds shelf.new ≡ S.holds shelf.old }
-    ensures misses { Counts (S.misses shelf.old) (S.misses shelf.new) }
-    ensures faults { Counts (S.faults shelf.old) (S.faults shelf.new) }
+    ensures answers { RepliesWith
+        (ReadsThen Files.Second certificate.now (ChecksText model.now.entries)
+        (since (S.seen shelf.old) (S.seen shelf.new))) result }
+    ensures log { (S.seen shelf.new).log
+        ≡ logged (S.seen shelf.old).log (certificate.now ∷ []) }
+    ensures moves { Moves (S.seen shelf.old) (S.seen shelf.new) }
 {
     match fetch(alloc, shelf, Place::Second, certificate)? {
         Fetched::Bytes(text) => Ok(answer_text(alloc, model, text.as_slice())?),
@@ -65,7 +45,7 @@ fn answer_model<S: Shelf>(
 /// Answers the text of the second file.
 fn answer_text(alloc: Global, model: &Model, text: &[u8]) -> Result<Reply, AllocError>
     requires { length text.now ≤ file_most }
-    ensures { IfOk result (λ reply. ChecksText model.now.entries text.now reply.status (text_of reply.text)) }
+    ensures { RepliesWith (ChecksText model.now.entries text.now) result }
 {
     match read_cert(alloc, model, text) {
         Ok(certificate) => Ok(answer_certificate(alloc, model, &certificate)?),
@@ -84,7 +64,7 @@ fn answer_certificate(
     certificate: &Certificate,
 ) -> Result<Reply, AllocError>
     requires { Fits (grounded model.now.entries) (shown certificate.now) }
-    ensures { IfOk result (λ reply. ChecksCertificate model.now.entries (shown certificate.now) reply.status (text_of reply.text)) }
+    ensures { RepliesWith (ChecksCertificate model.now.entries (shown certificate.now)) result }
 {
     let network = ground(alloc, model)?;
     let judged = verdict(&network, certificate);

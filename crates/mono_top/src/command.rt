@@ -1,24 +1,21 @@
 // The words of a call, as a command.
 ghost use Rattle.std.specs.Prelude.{◌≡◌, ◌∷◌, [], option_map};
-ghost use Rattle.mono_top.specs.Request.{asked, request_of};
-ghost use Rattle.mono_top.specs.Commands.{request_by};
+ghost use Rattle.mono_top.specs.Request.{asked, request_of, request_by};
 
+/// A command on a model file.
 #[derive(Clone, Copy)]
-pub(crate) enum Command<'a> {
-    Solve {
-        model: &'a str,
-    },
-    Check {
-        model: &'a str,
-        certificate: &'a str,
-    },
-    Feasible {
-        model: &'a str,
-    },
-    Curve {
-        model: &'a str,
-        arc: &'a str,
-    },
+pub(crate) struct Command<'a> {
+    pub model: &'a str,
+    pub task: Task<'a>,
+}
+
+/// What is to be done once the model has been read.
+#[derive(Clone, Copy)]
+pub(crate) enum Task<'a> {
+    Solve,
+    Check { certificate: &'a str },
+    Feasible,
+    Curve { arc: &'a str },
 }
 
 /// The words' own bytes serve as names, so this takes no memory.
@@ -26,37 +23,36 @@ pub(crate) fn command_of(words: &[String]) -> Option<Command<'_>>
     ensures { option_map request_by result ≡ asked words.now }
 {
     match words {
-        [command, model] => on_model(command.as_str(), model.as_str()),
-        [command, model, other] => on_model_and(command.as_str(), model.as_str(), other.as_str()),
+        [command, model] => with_one(command.as_str(), model.as_str()),
+        [command, model, other] => with_two(command.as_str(), model.as_str(), other.as_str()),
         _ => None,
     }
 }
 
-/// The commands with one more word.
-fn on_model<'a>(command: &str, model: &'a str) -> Option<Command<'a>>
+/// The commands with one word.
+fn with_one<'a>(command: &str, model: &'a str) -> Option<Command<'a>>
     ensures { option_map request_by result ≡ request_of (command.now ∷ model.now ∷ []) }
 {
-    if command == "solve" {
-        Some(Command::Solve { model })
+    let task = if command == "solve" {
+        Task::Solve
     } else if command == "feasible" {
-        Some(Command::Feasible { model })
+        Task::Feasible
     } else {
-        None
-    }
+        return None;
+    };
+    Some(Command { model, task })
 }
 
-/// The commands with two more words.
-fn on_model_and<'a>(command: &str, model: &'a str, other: &'a str) -> Option<Command<'a>>
+/// The commands with two words.
+fn with_two<'a>(command: &str, model: &'a str, other: &'a str) -> Option<Command<'a>>
     ensures { option_map request_by result ≡ request_of (command.now ∷ model.now ∷ other.now ∷ []) }
 {
-    if command == "check" {
-        Some(Command::Check {
-            model,
-            certificate: other,
-        })
+    let task = if command == "check" {
+        Task::Check { certificate: other }
     } else if command == "curve" {
-        Some(Command::Curve { model, arc: other })
+        Task::Curve { arc: other }
     } else {
-        None
-    }
+        return None;
+    };
+    Some(Command { model, task })
 }

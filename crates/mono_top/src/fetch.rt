@@ -1,7 +1,6 @@
 // A file of a command's words, read whole or refused; and the model that the first file spells.
-ghost use Rattle.std.specs.Prelude.{◌≡◌};
-ghost use Rattle.outside_io.specs.Counts.{Rose, Counts};
-ghost use Rattle.mono_top.specs.Answer.{outside_of};
+ghost use Rattle.std.specs.Prelude.{◌≡◌, ◌∷◌, []};
+ghost use Rattle.outside_io.specs.Seen.{Moves, logged, since};
 ghost use Rattle.mono_top.specs.Fetch.{Fetches, FetchesModel};
 
 use crate::lines::{self, Place};
@@ -32,11 +31,9 @@ pub(crate) fn fetch<S: Shelf>(
     place: Place,
     name: &str,
 ) -> Result<Fetched, AllocError>
-    ensures fetches { Fetches place name.now (outside_of (S.holds shelf.old) (S.rest shelf.new)
-        (Rose (S.misses shelf.old) (S.misses shelf.new)) (Rose (S.faults shelf.old) (S.faults shelf.new))) result }
-    ensures holds { S.holds shelf.new ≡ S.holds shelf.old }
-    ensures misses { Counts (S.misses shelf.old) (S.misses shelf.new) }
-    ensures faults { Counts (S.faults shelf.old) (S.faults shelf.new) }
+    ensures fetches { Fetches place name.now (since (S.seen shelf.old) (S.seen shelf.new)) result }
+    ensures log { (S.seen shelf.new).log ≡ logged (S.seen shelf.old).log (name.now ∷ []) }
+    ensures moves { Moves (S.seen shelf.old) (S.seen shelf.new) }
 {
     let reply = match read_file(alloc, shelf, name, FILE_MOST) {
         ReadAns::Bytes(bytes) => return Ok(Fetched::Bytes(bytes)),
@@ -54,11 +51,9 @@ pub(crate) fn fetch_model<S: Shelf>(
     shelf: &mut S,
     name: &str,
 ) -> Result<FetchedModel, AllocError>
-    ensures fetches { FetchesModel name.now (outside_of (S.holds shelf.old) (S.rest shelf.new)
-        (Rose (S.misses shelf.old) (S.misses shelf.new)) (Rose (S.faults shelf.old) (S.faults shelf.new))) result }
-    ensures holds { S.holds shelf.new ≡ S.holds shelf.old }
-    ensures misses { Counts (S.misses shelf.old) (S.misses shelf.new) }
-    ensures faults { Counts (S.faults shelf.old) (S.faults shelf.new) }
+    ensures fetches { FetchesModel name.now (since (S.seen shelf.old) (S.seen shelf.new)) result }
+    ensures log { (S.seen shelf.new).log ≡ logged (S.seen shelf.old).log (name.now ∷ []) }
+    ensures moves { Moves (S.seen shelf.old) (S.seen shelf.new) }
 {
     let text = match fetch(alloc, shelf, Place::First, name)? {
         Fetched::Bytes(text) => text,

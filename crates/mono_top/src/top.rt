@@ -4,13 +4,15 @@ ghost use Rattle.std.specs.Option.{ForSome};
 ghost use Rattle.theory.specs.Grounded.{Entries};
 ghost use Rattle.model_text.specs.declared.fault.FaultWord.{FaultWord as Fault};
 ghost use Rattle.outside_io.specs.Counts.{Rose, Counts};
-ghost use Rattle.mono_top.specs.Answer.{Answers, outside_of};
-ghost use Rattle.mono_top.specs.Causes.{AsksFaulty, AsksSolvable, AsksToCheck, AsksInvalid, AsksFeasible, AsksUnknownArc, IsAnswerable, GoesThrough};
+ghost use Rattle.outside_io.specs.Seen.{Moves, since};
+ghost use Rattle.mono_top.specs.Answer.{Answers};
+ghost use Rattle.mono_top.specs.Causes.{Asks, AsksFaulty, AsksToCheck, AsksInvalid, AsksUnknownArc, ComesAlways, ComesBy, IsAnswerable, IsUnhindered, GoesThrough};
 ghost use Rattle.mono_top.specs.CountsReadings.{CountsReadings};
 ghost use Rattle.mono_top.specs.Headline.{Concludes, ConcludesCheck, ConcludesFeasible};
 ghost use Rattle.mono_top.specs.Ending.{WritesDue, WritesPart};
 ghost use Rattle.mono_top.specs.Reading.{ReachesMissing, ReachesPastMost, ReachesTooLong, HoldsFirst};
-ghost use Rattle.mono_top.specs.Request.{asked, files_of};
+ghost use Rattle.mono_top.specs.Request.{asked, files_of, solve, feasible};
+ghost use Rattle.mono_top.specs.Starts.{StartsFiles};
 
 use crate::answer::reply_to;
 use crate::status::Status;
@@ -28,65 +30,72 @@ pub fn run<S: Shelf, K: Sink, L: Ledger>(
     steps: &mut Steps<L>,
 ) -> Status
     // What is written.
-    ensures written { result ≢ Status.WriteFault → result ≢ Status.NoMemory → WritesDue (Answers (asked words.now) (outside_of (S.holds shelf.old) (S.rest shelf.new)
-        (Rose (S.misses shelf.old) (S.misses shelf.new)) (Rose (S.faults shelf.old) (S.faults shelf.new)))) (K.written out.old) (K.written out.new) result }
-    ensures part { result ≡ Status.WriteFault → WritesPart (Answers (asked words.now) (outside_of (S.holds shelf.old) (S.rest shelf.new)
-        (Rose (S.misses shelf.old) (S.misses shelf.new)) (Rose (S.faults shelf.old) (S.faults shelf.new)))) (K.written out.old) (K.written out.new) (K.sure out.old) }
+    ensures written { result ≢ Status.WriteFault → result ≢ Status.NoMemory
+        → WritesDue (Answers (asked words.now) (since (S.seen shelf.old) (S.seen shelf.new)))
+        (K.written out.old) (K.written out.new) result }
+    ensures part { result ≡ Status.WriteFault
+        → WritesPart (Answers (asked words.now) (since (S.seen shelf.old) (S.seen shelf.new)))
+        (K.written out.old) (K.written out.new) (K.sure out.old) }
     ensures nothing { result ≡ Status.NoMemory → out.new ≡ out.old }
 
     // The certificate of a model: an optimum over all fractions, or why there is none.
-    ensures headline { result ≢ Status.ReadFault → result ≢ Status.WriteFault → result ≢ Status.NoMemory
-        → ForSome (S.holds shelf.old) (λ files. (m : Entries) → AsksSolvable files m (asked words.now)
+    ensures headline { IsUnhindered result → ForSome (S.seen shelf.old).holds (λ files. (m : Entries)
+        → Asks files solve m (asked words.now)
         → Concludes m result (K.written out.old) (K.written out.new)) }
 
     // A text from anywhere is accepted exactly where it is that of a valid certificate.
-    ensures checked { result ≢ Status.ReadFault → result ≢ Status.WriteFault → result ≢ Status.NoMemory
-        → ForSome (S.holds shelf.old) (λ files. (m : Entries) (text : List ℕ) → AsksToCheck files m text (asked words.now)
+    ensures checked { IsUnhindered result → ForSome (S.seen shelf.old).holds (λ files.
+        (m : Entries) (text : List ℕ) → AsksToCheck files m text (asked words.now)
         → ConcludesCheck m text result) }
 
     // Whether there are a flow and a potential that are feasible, over any fractions.
-    ensures feasible { result ≢ Status.ReadFault → result ≢ Status.WriteFault → result ≢ Status.NoMemory
-        → ForSome (S.holds shelf.old) (λ files. (m : Entries) → AsksFeasible files m (asked words.now) → ConcludesFeasible m result) }
+    ensures feasible { IsUnhindered result → ForSome (S.seen shelf.old).holds (λ files. (m : Entries)
+        → Asks files feasible m (asked words.now) → ConcludesFeasible m result) }
 
     // When each refusal comes.
     ensures usage { result ≡ Status.Usage → asked words.now ≡ None }
-    ensures usage_always { asked words.now ≡ None → (result ≡ Status.Usage) ⊎ (result ≡ Status.WriteFault) }
-    ensures missing { result ≡ Status.Missing → Rose (S.misses shelf.old) (S.misses shelf.new) }
-    ensures not_held { result ≡ Status.Missing → ForSome (S.holds shelf.old) (λ files. ReachesMissing files (files_of (asked words.now))) }
-    ensures read_fault { result ≡ Status.ReadFault → Rose (S.faults shelf.old) (S.faults shelf.new) }
-    ensures too_long { result ≡ Status.TooLong
-        → ForSome (S.holds shelf.old) (λ files. ReachesPastMost files (S.rest shelf.new) (files_of (asked words.now))) }
-    ensures too_long_always { ForSome (S.holds shelf.old) (λ files. ReachesTooLong files (files_of (asked words.now))
-        → ¬ Rose (S.faults shelf.old) (S.faults shelf.new)
-        → (result ≡ Status.TooLong) ⊎ (result ≡ Status.NoMemory) ⊎ (result ≡ Status.WriteFault)) }
-    ensures refused { (line : ℕ) (word : Fault) → result ≡ Status.ModelRefused line word
-        → ForSome (S.holds shelf.old) (λ files. AsksFaulty files line word (asked words.now)) }
-    ensures refused_always { ForSome (S.holds shelf.old) (λ files. (line : ℕ) (word : Fault) → AsksFaulty files line word (asked words.now)
-        → ¬ Rose (S.faults shelf.old) (S.faults shelf.new)
-        → (result ≡ Status.ModelRefused line word) ⊎ (result ≡ Status.NoMemory) ⊎ (result ≡ Status.WriteFault)) }
-    ensures rejected { result ≡ Status.Rejected → ForSome (S.holds shelf.old) (λ files. AsksInvalid files (asked words.now)) }
-    ensures rejected_always { ForSome (S.holds shelf.old) (λ files. AsksInvalid files (asked words.now)
-        → ¬ Rose (S.faults shelf.old) (S.faults shelf.new)
-        → (result ≡ Status.Rejected) ⊎ (result ≡ Status.NoMemory) ⊎ (result ≡ Status.WriteFault)) }
-    ensures unknown_arc { result ≡ Status.UnknownArc → ForSome (S.holds shelf.old) (λ files. AsksUnknownArc files (asked words.now)) }
-    ensures unknown_arc_always { ForSome (S.holds shelf.old) (λ files. AsksUnknownArc files (asked words.now)
-        → ¬ Rose (S.faults shelf.old) (S.faults shelf.new)
-        → (result ≡ Status.UnknownArc) ⊎ (result ≡ Status.NoMemory) ⊎ (result ≡ Status.WriteFault)) }
+    ensures usage_always { asked words.now ≡ None
+        → (result ≡ Status.Usage) ⊎ (result ≡ Status.WriteFault) }
+    ensures missing { result ≡ Status.Missing
+        → Rose (S.seen shelf.old).misses (S.seen shelf.new).misses }
+    ensures not_held { result ≡ Status.Missing → ForSome (S.seen shelf.old).holds
+        (λ files. ReachesMissing files (files_of (asked words.now))) }
+    ensures read_fault { result ≡ Status.ReadFault
+        → Rose (S.seen shelf.old).faults (S.seen shelf.new).faults }
+    ensures too_long { result ≡ Status.TooLong → ForSome (S.seen shelf.old).holds
+        (λ files. ReachesPastMost files (S.seen shelf.new).rest (files_of (asked words.now))) }
+    ensures too_long_always { ComesAlways Status.TooLong
+        (λ files. ReachesTooLong files (files_of (asked words.now)))
+        (since (S.seen shelf.old) (S.seen shelf.new)) result }
+    ensures refused { (line : ℕ) (word : Fault) → ComesBy (Status.ModelRefused line word)
+        (λ files. AsksFaulty files line word (asked words.now))
+        (since (S.seen shelf.old) (S.seen shelf.new)) result }
+    ensures rejected { ComesBy Status.Rejected (λ files. AsksInvalid files (asked words.now))
+        (since (S.seen shelf.old) (S.seen shelf.new)) result }
+    ensures unknown_arc { ComesBy Status.UnknownArc
+        (λ files. AsksUnknownArc files (asked words.now))
+        (since (S.seen shelf.old) (S.seen shelf.new)) result }
     ensures write_fault { result ≡ Status.WriteFault → Rose (K.faults out.old) (K.faults out.new) }
     ensures no_memory { result ≡ Status.NoMemory → IsSome (asked words.now) }
-    ensures first_held { result ≡ Status.NoMemory → ForSome (S.holds shelf.old) (λ files. HoldsFirst files (files_of (asked words.now))) }
+    ensures first_held { result ≡ Status.NoMemory → ForSome (S.seen shelf.old).holds
+        (λ files. HoldsFirst files (files_of (asked words.now))) }
 
     // A command whose files are readable is answered, where no fault rose and memory was there.
-    ensures complete { ForSome (S.holds shelf.old) (λ files. IsAnswerable files (asked words.now)
-        → ¬ Rose (S.faults shelf.old) (S.faults shelf.new) → ¬ Rose (K.faults out.old) (K.faults out.new) → GoesThrough result) }
+    ensures complete { ForSome (S.seen shelf.old).holds (λ files.
+        IsAnswerable files (asked words.now)
+        → ¬ Rose (S.seen shelf.old).faults (S.seen shelf.new).faults
+        → ¬ Rose (K.faults out.old) (K.faults out.new) → GoesThrough result) }
+
+    // Which files were started. A line that refuses a file names the last of them.
+    ensures starts { StartsFiles (asked words.now)
+        (since (S.seen shelf.old) (S.seen shelf.new)) (result ≡ Status.NoMemory) }
 
     // What stays.
     ensures untouched { asked words.now ≡ None → shelf.new ≡ shelf.old }
-    ensures holds { S.holds shelf.new ≡ S.holds shelf.old }
-    ensures misses { Counts (S.misses shelf.old) (S.misses shelf.new) }
-    ensures faults { Counts (S.faults shelf.old) (S.faults shelf.new) }
+    ensures moves { Moves (S.seen shelf.old) (S.seen shelf.new) }
     ensures sink_faults { Counts (K.faults out.old) (K.faults out.new) }
-    ensures readings { CountsReadings (asked words.now) (S.holds shelf.old) steps.old steps.new }
+    ensures readings { CountsReadings (asked words.now)
+        (S.seen shelf.old).holds steps.old steps.new }
 {
     let reply = match reply_to(alloc, words, shelf, steps) {
         Ok(reply) => reply,

@@ -29,7 +29,8 @@ pub(crate) fn verdict_line(
     judged: Judged,
 ) -> Result<ByteText, AllocError>
     requires { NamesThere model.now.entries judged }
-    ensures { IfOk result (λ text. text ≡ verdict_line model.now.entries (shown certificate.now) judged) }
+    ensures { IfOk result (λ text.
+        text ≡ verdict_line model.now.entries (shown certificate.now) judged) }
 {
     let mut out = Vec::new(alloc);
     match judged {
@@ -81,7 +82,8 @@ fn append_node(
     node: NodeId,
 ) -> Result<(), AllocError>
     requires { node.0 ≤ length model.now.entries.nodes }
-    ensures { OnOk result (out.new.items ≡ out.old.items ++ keyword.now ++ spaced (node_name model.now.entries node.0 ∷ [])) }
+    ensures { OnOk result (out.new.items
+        ≡ out.old.items ++ keyword.now ++ spaced (node_name model.now.entries node.0 ∷ [])) }
 {
     out.extend_from_slice(keyword)?;
     append_node_name(out, model, node.0)
@@ -94,7 +96,8 @@ fn append_arc(
     arc: ArcId,
 ) -> Result<(), AllocError>
     requires { arc.0 < length model.now.entries.nodes + length model.now.entries.arcs }
-    ensures { OnOk result (out.new.items ≡ out.old.items ++ keyword.now ++ spaced (arc_name model.now.entries arc.0 ∷ [])) }
+    ensures { OnOk result (out.new.items
+        ≡ out.old.items ++ keyword.now ++ spaced (arc_name model.now.entries arc.0 ∷ [])) }
 {
     out.extend_from_slice(keyword)?;
     out.push(b' ')?;
@@ -102,7 +105,8 @@ fn append_arc(
 }
 
 fn append_count(out: &mut Vec<u8>, keyword: &[u8], count: u32) -> Result<(), AllocError>
-    ensures { OnOk result (out.new.items ≡ out.old.items ++ keyword.now ++ spaced (printed_number (pos count) ∷ [])) }
+    ensures { OnOk result (out.new.items
+        ≡ out.old.items ++ keyword.now ++ spaced (printed_number (pos count) ∷ [])) }
 {
     out.extend_from_slice(keyword)?;
     append_number(out, count)
@@ -115,7 +119,8 @@ fn append_numbers(
     right: i128,
 ) -> Result<(), AllocError>
     ensures { OnOk result (out.new.items
-        ≡ out.old.items ++ keyword.now ++ spaced (printed_number stated ∷ codes "right" ∷ printed_number right ∷ [])) }
+        ≡ out.old.items ++ keyword.now
+        ++ spaced (printed_number stated ∷ codes "right" ∷ printed_number right ∷ [])) }
 {
     out.extend_from_slice(keyword)?;
     append_number(out, stated)?;

@@ -9,7 +9,7 @@ use Rattle.theory.specs.Sums.{sum_over, sum_below, counted}
 use Rattle.theory.specs.Network.{Network, arc_at, tail, head}
 use Rattle.theory.specs.Conserved.{divergence}
 use Rattle.theory.specs.Circuit.{step}
-use Rattle.theory.proofs.SumsBelow.{sum_below-same, sum_below-sub}
+use Rattle.theory.proofs.SumsBelow.{sum_below-front, sum_below-same, sum_below-sub}
 use Rattle.net_incidence.specs.Graph.{AreArcs}
 use Rattle.net_incidence.specs.Incidence.{step_at, joined_below, incident_steps}
 use Rattle.net_incidence.specs.FlowAlong.{flow_along}
@@ -19,17 +19,12 @@ pub sum_over-append : {A : Type 0} (f : A → ℤ) (xs ys : List A) → sum_over
 sum_over-append f [] ys = omega (arith, ints)
 sum_over-append f (x ∷ xs) ys = let e = sum_over-append f xs ys in omega (arith, ints)
 
--- the first term apart
-sum_below-first : (n : ℕ) (f : ℕ → ℤ) → sum_below (suc n) f ≡ f 0 +ℤ sum_below n (λ k. f (suc k))
-sum_below-first zero f = omega (arith, ints)
-sum_below-first (suc n) f = let e = sum_below-first n f in omega (arith, ints)
-
 -- a sum over a list is one over its places
 pub sum_over-places : (f : Step → ℤ) (xs : List Step) → sum_over f xs ≡ sum_below (length xs) (λ k. f (step xs k))
 sum_over-places f [] = refl
 sum_over-places f (x ∷ xs) =
     let rest = sum_over-places f xs in
-    let split = sum_below-first (length xs) (λ k. f (step (x ∷ xs) k)) in
+    let split = sum_below-front (length xs) (λ k. f (step (x ∷ xs) k)) in
     omega (arith, ints)
 
 pub sum_over-joined : {A : Type 0} (f : A → ℤ) (n : ℕ) (g : ℕ → List A) → sum_over f (joined_below n g) ≡ sum_below n (λ j. sum_over f (g j))

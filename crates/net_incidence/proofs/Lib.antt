@@ -5,3 +5,5 @@ pub mod Divergence
 pub mod BadSteps
 pub mod SumParts
 pub mod Networks
+pub mod WithoutBases
+pub mod Degrees

@@ -1,18 +1,18 @@
 -- What an arc or a step adds to a sum, and sums of such parts.
-use Rattle.std.proofs.Common.{◌≡◌, ℕ, suc, ◌+◌, ◌<◌, ℤ, ◌+ℤ◌, Bool, false, Some, None, List, [], ◌∷◌, length, get_or, map, refl, sym, ◌∙◌, ap, add-one, arith}
+use Rattle.std.proofs.Common.{◌≡◌, ℕ, suc, ◌+◌, ◌<◌, ℤ, ◌+ℤ◌, Bool, Some, None, List, [], ◌∷◌, length, get_or, map, refl, sym, ◌∙◌, ap, add-one, arith}
 use Rattle.std.proofs.lemmas.Int.{ints}
 use Rattle.std.proofs.lemmas.List.{get_or-map}
 use Rattle.theory.specs.declared.ext.Ext.{Ext}
 use Rattle.theory.specs.declared.ext.Ext.TheVariants.{MinusInf, At, PlusInf}
 use Rattle.theory.specs.declared.network.Step.{Step}
 use Rattle.theory.specs.Sums.{sum_below, Each}
-use Rattle.theory.specs.Ends.{is_finite, IsFinite, whole}
+use Rattle.theory.specs.Ends.{IsFinite, whole}
 use Rattle.theory.specs.CurveList.{Listing}
 use Rattle.theory.specs.Network.{Network, curve, tail, head}
 use Rattle.theory.specs.Cut.{holds, cut_end}
-use Rattle.theory.specs.Circuit.{step, span_end, span_sum}
+use Rattle.theory.specs.Circuit.{step, passing_end, span_end, span_sum}
 use Rattle.net_incidence.specs.Graph.{Graph, network}
-use Rattle.net_incidence.specs.PartOf.{part_of, crossing_end, passing_end}
+use Rattle.net_incidence.specs.PartOf.{part_of, crossing_end}
 use Rattle.net_incidence.proofs.Divergence.{sum_over-places}
 
 -- ---- one part
@@ -27,10 +27,10 @@ part-whole MinusInf z h = cc
 part-whole (At a) z h = cc
 part-whole PlusInf z h = cc
 
-pub part-endless : (e : Ext) → None ≡ part_of e → is_finite e ≡ false
-part-endless MinusInf h = refl
-part-endless (At a) h = cc
-part-endless PlusInf h = refl
+pub part-endless : (e : Ext) → None ≡ part_of e → IsFinite e → ⊥
+part-endless MinusInf h finite = cc
+part-endless (At a) h finite = cc
+part-endless PlusInf h finite = cc
 
 -- ---- the curve of an arc
 

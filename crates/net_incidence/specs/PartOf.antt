@@ -4,7 +4,6 @@ use Rattle.theory.specs.declared.ext.Ext.{Ext}
 use Rattle.theory.specs.declared.ext.Ext.TheVariants.{MinusInf, At, PlusInf}
 use Rattle.theory.specs.Ends.{negated}
 use Rattle.theory.specs.CurveList.{first, last}
-use Rattle.theory.specs.Span.{span_low, span_high}
 
 -- the number that an end adds, if it is finite
 abbrev pub part_of : Ext → Option ℤ
@@ -16,7 +15,3 @@ part_of PlusInf = None
 abbrev pub crossing_end : List Ext → Bool → Bool → Ext
 crossing_end items at_tail at_head =
     if at_tail && not at_head then last items else (if not at_tail && at_head then negated (first items) else (At (pos 0)))
-
--- the end that a curve adds to the sum of a walk, by the direction of the step
-abbrev pub passing_end : List Ext → Bool → Ext
-passing_end items forward = if forward then span_high items else (negated (span_low items))

@@ -1,8 +1,9 @@
 -- The answer of a sum of ends: the sum where every end is finite, else the first arc whose end is infinite.
-use Rattle.std.specs.Prelude.{◌≡◌, ℕ, ◌*◌, ◌^◌, ◌<◌, Bool, false, List, length}
+use Rattle.std.specs.Prelude.{◌≡◌, ℕ, ◌*◌, ◌^◌, Bool, List, length}
 use Rattle.theory.specs.declared.ext.Ext.{Ext}
 use Rattle.theory.specs.declared.network.Step.{Step}
-use Rattle.theory.specs.Ends.{is_finite, IsFinite}
+use Rattle.theory.specs.First.{IsFirstFailing}
+use Rattle.theory.specs.Ends.{IsFinite}
 use Rattle.theory.specs.Limits.{IsWithin}
 use Rattle.theory.specs.Network.{Network}
 use Rattle.theory.specs.Cut.{cut_end, cut_sum, CutCounts}
@@ -11,10 +12,8 @@ use Rattle.net_incidence.specs.declared.sums.Sum.{Sum}
 use Rattle.net_incidence.specs.declared.sums.Sum.TheVariants.{Whole, Endless}
 
 -- of n ends, number k is the first infinite one
-pub record IsFirstEndless (n : ℕ) (end : ℕ → Ext) (k : ℕ) : Type 0 where
-  pub there : k < n
-  pub endless : is_finite (end k) ≡ false
-  pub before : (j : ℕ) → j < k → IsFinite (end j)
+abbrev pub IsFirstEndless : ℕ → (ℕ → Ext) → ℕ → Type 0
+IsFirstEndless n end k = IsFirstFailing n (λ j. IsFinite (end j)) k
 
 -- a sum of n ends, each of which fits 64 bits
 abbrev pub IsSumWithin : ℕ → Sum → Type 0

@@ -2,9 +2,9 @@
 ghost use Rattle.std.specs.Prelude.{◌≡◌, ◌^◌, ◌<◌, length, map, IfSome};
 ghost use Rattle.theory.specs.Limits.{IsWithin};
 ghost use Rattle.theory.specs.Ends.{negated};
-ghost use Rattle.theory.specs.Circuit.{WalkIsThere};
+ghost use Rattle.theory.specs.Circuit.{WalkIsThere, passing_end};
 ghost use Rattle.net_incidence.specs.Graph.{bare, network};
-ghost use Rattle.net_incidence.specs.PartOf.{part_of, crossing_end, passing_end};
+ghost use Rattle.net_incidence.specs.PartOf.{part_of, crossing_end};
 
 use crate::net::Net;
 use mono_curve::{Listed, domain_of, span_of};

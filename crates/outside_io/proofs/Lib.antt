@@ -2,3 +2,4 @@ mod Added
 pub mod Entries
 pub mod Grown
 mod Held
+pub mod Logs

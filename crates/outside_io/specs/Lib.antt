@@ -3,6 +3,8 @@ pub mod Files
 pub mod MemoryShelf
 pub mod MemorySink
 pub mod Places
+pub mod Seen
 pub mod Shelf
 pub mod Sink
+pub mod StdSink
 pub mod Whole

@@ -6,7 +6,7 @@ use std::fs::File;
 use std::io::{ErrorKind, Read};
 use std::rt::Files;
 
-/// The files of a runtime. It tells nothing of their bytes.
+/// The files of a runtime. It tells nothing of their bytes, and keeps no log.
 #[derive(Drop)]
 pub struct FileShelf<R: Files> {
     runtime: R,
@@ -17,9 +17,9 @@ pub struct FileShelf<R: Files> {
 
 impl<R: Files> FileShelf<R> {
     pub fn new(runtime: R) -> Self
-        ensures idle { ⟦<FileShelf<R> as Shelf>⟧.started result ≡ false }
-        ensures faults { ⟦<FileShelf<R> as Shelf>⟧.faults result ≡ 0 }
-        ensures misses { ⟦<FileShelf<R> as Shelf>⟧.misses result ≡ 0 }
+        ensures idle { (⟦<FileShelf<R> as Shelf>⟧.seen result).started ≡ false }
+        ensures faults { (⟦<FileShelf<R> as Shelf>⟧.seen result).faults ≡ 0 }
+        ensures misses { (⟦<FileShelf<R> as Shelf>⟧.seen result).misses ≡ 0 }
     {
         FileShelf {
             runtime,
@@ -31,15 +31,14 @@ impl<R: Files> FileShelf<R> {
 }
 
 impl<R: Files> Shelf for FileShelf<R> {
-    ghost holds = { λ _. None };
-
-    ghost started = { λ s. is_some s.file };
-
-    ghost rest = { λ _. None };
-
-    ghost faults = { λ s. s.faults };
-
-    ghost misses = { λ s. s.misses };
+    ghost seen = { λ s. record {
+      holds = None;
+      started = is_some s.file;
+      rest = None;
+      log = None;
+      misses = s.misses;
+      faults = s.faults;
+    } };
 
     /// A name that is not found is `Missing`, and each other failure to open it a fault.
     fn start(&mut self, name: &str) -> Opened {

@@ -86,15 +86,14 @@ impl MemoryShelf {
 }
 
 impl Shelf for MemoryShelf {
-    ghost holds = { λ s. Some s.holds };
-
-    ghost started = { λ s. s.started };
-
-    ghost rest = { λ s. Some s.rest };
-
-    ghost faults = { λ s. s.faults };
-
-    ghost misses = { λ s. s.misses };
+    ghost seen = { λ s. record {
+      holds = Some s.holds;
+      started = s.started;
+      rest = Some s.rest;
+      log = None;
+      misses = s.misses;
+      faults = s.faults;
+    } };
 
     fn start(&mut self, name: &str) -> Opened
         ensures exactly { StartsIn self.old name.now result self.new }

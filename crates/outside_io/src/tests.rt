@@ -1,8 +1,10 @@
-ghost use Rattle.std.specs.Prelude.{◌<◌};
+ghost use Rattle.std.specs.Prelude.{◌<◌, Some};
+ghost use Rattle.outside_io.specs.Seen.{Seen};
 
 use super::*;
 use std::alloc::{AllocError, Global};
 use std::io::{self, ErrorKind, Write};
+use std::process::Abort;
 use std::test::Fail;
 use std::{fs, process};
 
@@ -26,6 +28,58 @@ fn two_files(alloc: Global, fails: &[u64], most: usize) -> Result<MemoryShelf, A
     shelf.put("six", b"abcdef")?;
     shelf.put("none", b"")?;
     Ok(shelf)
+}
+
+/// Keeps a log of the names that it is asked to start, as no source of the program does.
+#[derive(Drop)]
+struct Diary<R: Abort> {
+    shelf: MemoryShelf,
+    names: Vec<ByteText>,
+    runtime: R,
+}
+
+impl<R: Abort> Shelf for Diary<R> {
+    ghost seen = { λ s. record {
+      holds = Some s.shelf.holds;
+      started = s.shelf.started;
+      rest = Some s.shelf.rest;
+      log = Some s.names.items;
+      misses = s.shelf.misses;
+      faults = s.shelf.faults;
+    } };
+
+    fn start(&mut self, name: &str) -> Opened {
+        let copy = Vec::from_slice(*self.names.allocator(), name.as_bytes());
+        let text = ByteText::of_vec(copy.expect(&self.runtime, "memory for a name"));
+        let pushed = self.names.push(text);
+        pushed.expect(&self.runtime, "memory for the log");
+        self.shelf.start(name)
+    }
+
+    fn read(&mut self, buf: &mut [u8]) -> Got {
+        self.shelf.read(buf)
+    }
+
+    ghost told = { λ _ told. told };
+}
+
+#[test]
+fn a_call_starts_its_file_once(rt: HostRuntime) -> Result<(), Fail> {
+    let mut diary = Diary {
+        shelf: two_files(rt.alloc(), &[4], 4)?,
+        names: Vec::new(rt.alloc()),
+        runtime: rt,
+    };
+    for name in ["six", "six", "seven"] {
+        let answer = read_file(rt.alloc(), &mut diary, name, 6);
+        assert!(rt; shown(&answer) != b"too long".as_slice());
+    }
+    let names: [&[u8]; 3] = [b"six", b"six", b"seven"];
+    assert_eq!(rt; diary.names.len(), names.len());
+    for (started, name) in diary.names.iter().zip(names) {
+        assert_eq!(rt; started.as_slice(), name);
+    }
+    Ok(())
 }
 
 #[test]

@@ -1,9 +1,10 @@
 // Reading a whole file from a source, and writing a whole text into a sink.
-ghost use Rattle.std.specs.Prelude.{◌≡◌, ℕ, ◌+◌, ◌^◌, ◌<◌, ◌≤◌, ◌⊎◌, List, length, IsTrue};
+ghost use Rattle.std.specs.Prelude.{◌≡◌, ℕ, ◌+◌, ◌^◌, ◌<◌, ◌≤◌, ◌⊎◌, List, [], ◌∷◌, length, IsTrue};
 ghost use Rattle.std.specs.Option.{ForSome};
 ghost use Rattle.std.specs.Io.KnownBytes.{prepend_known};
 ghost use Rattle.outside_io.specs.Counts.{Rose, Counts};
 ghost use Rattle.outside_io.specs.Files.{Files, file_of};
+ghost use Rattle.outside_io.specs.Seen.{Moves, logged};
 ghost use Rattle.outside_io.specs.Sink.{Grew, GrewShort, Fell};
 ghost use Rattle.outside_io.specs.Whole.{IsTooLong, ReadsWhole, ReadsRest, AnswersWithin};
 
@@ -37,17 +38,16 @@ pub enum Written {
 /// Takes no memory before the file is started.
 pub fn read_file<S: Shelf>(alloc: Global, shelf: &mut S, name: &str, most: usize) -> ReadAns
     requires { most ≤ 2 ^ 26 }
-    ensures answer { ForSome (S.holds shelf.old) (λ files. ReadsWhole files name.now most result) }
+    ensures answer { ForSome (S.seen shelf.old).holds (λ files. ReadsWhole files name.now most result) }
     ensures within { AnswersWithin result most }
-    ensures missing { result ≡ ReadAns.Missing → Rose (S.misses shelf.old) (S.misses shelf.new) }
-    ensures fault { result ≡ ReadAns.Fault → Rose (S.faults shelf.old) (S.faults shelf.new) }
-    ensures too_long { ForSome (S.holds shelf.old) (λ files. IsTooLong files name.now most
-        → (result ≡ ReadAns.TooLong) ⊎ (result ≡ ReadAns.NoMemory) ⊎ Rose (S.faults shelf.old) (S.faults shelf.new)) }
-    ensures taken { result ≡ ReadAns.TooLong → ForSome (S.holds shelf.old) (λ files. (bytes : List ℕ) × (length bytes ≡ most + 1)
-        × (file_of files name.now ≡ prepend_known bytes (S.rest shelf.new))) }
-    ensures holds { S.holds shelf.new ≡ S.holds shelf.old }
-    ensures misses { Counts (S.misses shelf.old) (S.misses shelf.new) }
-    ensures faults { Counts (S.faults shelf.old) (S.faults shelf.new) }
+    ensures missing { result ≡ ReadAns.Missing → Rose (S.seen shelf.old).misses (S.seen shelf.new).misses }
+    ensures fault { result ≡ ReadAns.Fault → Rose (S.seen shelf.old).faults (S.seen shelf.new).faults }
+    ensures too_long { ForSome (S.seen shelf.old).holds (λ files. IsTooLong files name.now most
+        → (result ≡ ReadAns.TooLong) ⊎ (result ≡ ReadAns.NoMemory) ⊎ Rose (S.seen shelf.old).faults (S.seen shelf.new).faults) }
+    ensures taken { result ≡ ReadAns.TooLong → ForSome (S.seen shelf.old).holds (λ files. (bytes : List ℕ) × (length bytes ≡ most + 1)
+        × (file_of files name.now ≡ prepend_known bytes (S.seen shelf.new).rest)) }
+    ensures log { (S.seen shelf.new).log ≡ logged (S.seen shelf.old).log (name.now ∷ []) }
+    ensures moves { Moves (S.seen shelf.old) (S.seen shelf.new) }
 {
     match shelf.start(name) {
         Opened::Ready => read_rest(alloc, shelf, most),
@@ -59,13 +59,12 @@ pub fn read_file<S: Shelf>(alloc: Global, shelf: &mut S, name: &str, most: usize
 /// Reads what is left of the started file, and at most one byte beyond `most`.
 fn read_rest<S: Shelf>(alloc: Global, shelf: &mut S, most: usize) -> ReadAns
     requires small { most ≤ 2 ^ 26 }
-    requires started { IsTrue (S.started shelf.old) }
-    ensures answer { ReadsRest result most (S.rest shelf.old) (S.rest shelf.new) }
+    requires started { IsTrue (S.seen shelf.old).started }
+    ensures answer { ReadsRest result most (S.seen shelf.old).rest (S.seen shelf.new).rest }
     ensures within { AnswersWithin result most }
-    ensures fault { result ≡ ReadAns.Fault → Rose (S.faults shelf.old) (S.faults shelf.new) }
-    ensures holds { S.holds shelf.new ≡ S.holds shelf.old }
-    ensures misses { Counts (S.misses shelf.old) (S.misses shelf.new) }
-    ensures faults { Counts (S.faults shelf.old) (S.faults shelf.new) }
+    ensures fault { result ≡ ReadAns.Fault → Rose (S.seen shelf.old).faults (S.seen shelf.new).faults }
+    ensures log { (S.seen shelf.new).log ≡ (S.seen shelf.old).log }
+    ensures moves { Moves (S.seen shelf.old) (S.seen shelf.new) }
 {
     let mut bytes = Vec::new(alloc);
     let mut chunk = [0; CHUNK];

@@ -3,20 +3,21 @@
 -- step. There is room for it, since the nodes of the tree are different and the new one is not among them.
 use Rattle.std.proofs.Common.{◌≡◌, ◌≢◌, ℕ, ℤ, zero, suc, ◌+◌, ◌<◌, ◌≤◌, ◌==◌, Bool, true, false, IsTrue, Some, None, List, [], ◌∷◌, ◌++◌, length, set, refl, sym, ap, ◌∙◌, subst, ⊎_elim, eq-eqb, length-append, arith}
 use Rattle.std.proofs.lemmas.Bool.{cases_lt, cases_eq, ne_eqb, false≢true}
-use Rattle.std.proofs.lemmas.List.{get_or_append_left, get_or-set_same, get_or-set_other}
-use Rattle.std.proofs.Math.Seq.{get_or-append_seam}
+use Rattle.std.proofs.lemmas.List.{get_or-set_same, get_or-set_other}
 use Rattle.theory.specs.declared.colour.Colour.{Colour}
 use Rattle.theory.specs.declared.network.Step.{Step}
 use Rattle.theory.specs.Network.{Network}
 use Rattle.theory.specs.Cut.{holds}
 use Rattle.theory.specs.Circuit.{step, begin_of, end_of}
+use Rattle.theory.proofs.Counting.{fewer-without}
+use Rattle.theory.proofs.Walks.{step-kept, step-last}
+use Rattle.theory.proofs.Marks.{holds-set_at, holds-set_other, holds-set_kept}
 use Rattle.net_incidence.specs.Graph.{Graph, bare}
-use Rattle.net_incidence.specs.Incidence.{over}
+use Rattle.net_incidence.proofs.Graphs.{end-in_graph}
 use Rattle.painted_search.specs.Room.{Room}
 use Rattle.painted_search.specs.Reaching.{with_reached}
 use Rattle.painted_search.specs.Path.{IsFreeStep, label_at}
 use Rattle.painted_search.specs.Tree.{node_at, IsTree, IsSearching, GoesOn}
-use Rattle.painted_search.proofs.Counting.{fewer-without}
 
 -- ---- the nodes of a walk that goes on
 
@@ -24,12 +25,6 @@ pub node_at-kept : (net : Network) (from : ℕ) (walk longer : List Step) → ((
     → (k : ℕ) → k ≤ length walk → node_at net from longer k ≡ node_at net from walk k
 node_at-kept net from walk longer same zero l = refl
 node_at-kept net from walk longer same (suc k) l = ap (end_of net) (same k (omega arith))
-
-step-kept : (walk : List Step) (s : Step) (k : ℕ) → k < length walk → step (walk ++ s ∷ []) k ≡ step walk k
-step-kept walk s k l = get_or_append_left walk (s ∷ []) _ k l
-
-step-last : (walk : List Step) (s : Step) (k : ℕ) → k ≡ length walk → step (walk ++ s ∷ []) k ≡ s
-step-last walk s k e = rw e (get_or-append_seam walk s [] _)
 
 -- ---- room for one more
 
@@ -41,21 +36,6 @@ tree-room net colours from i w tree there outside =
     (λ k l. tree.nodes_there k (omega arith))
     there
     (λ k l same. false≢true (sym (subst (λ n. holds w.reached n ≡ false) (sym same) outside) ∙ tree.marked k (omega arith)))
-
--- ---- the marks and labels of one more node
-
-holds-set_same : (side : List Bool) (i k : ℕ) → i < length side → k ≡ i → IsTrue (holds (set side i true) k)
-holds-set_same side i k l e = rw e (get_or-set_same side i true false l)
-
-holds-set_kept : (side : List Bool) (i k : ℕ) → i < length side → IsTrue (holds side k) → IsTrue (holds (set side i true) k)
-holds-set_kept side i k l held =
-    ⊎_elim
-    (λ (same : k ≡ i). holds-set_same side i k l same)
-    (λ (other : k ≡ i → ⊥). get_or-set_other side i k true false other ∙ held)
-    (cases_eq k i)
-
-holds-set_back : (side : List Bool) (i k : ℕ) → k ≢ i → holds (set side i true) k ≡ holds side k
-holds-set_back side i k other = get_or-set_other side i k true false other
 
 -- ---- the tree
 
@@ -107,12 +87,12 @@ tree-reached net colours from w s room tree nodes there free end_there begins ou
       marked = λ k l. ⊎_elim
           (λ (before : k < L + 1).
           rw (node_kept k (omega arith)) (holds-set_kept w.reached e (node_at net from w.walk k) mark_there (tree.marked k (omega arith))))
-          (λ (after : L + 1 ≤ k). holds-set_same w.reached e (node_at net from walk k) mark_there (node_last k (omega arith)))
+          (λ (after : L + 1 ≤ k). holds-set_at w.reached e (node_at net from walk k) mark_there (node_last k (omega arith)))
           (cases_lt k (L + 1));
       spanned = λ i held. ⊎_elim
           (λ (new : i ≡ e). (L + 1, (omega arith), node_last (L + 1) refl ∙ sym new))
           (λ (old : i ≡ e → ⊥).
-          let found = tree.spanned i (sym (holds-set_back w.reached e i old) ∙ held) in
+          let found = tree.spanned i (sym (holds-set_other w.reached e i old) ∙ held) in
           (found.0, (let within = found.1 in omega arith), node_kept found.0 found.1 ∙ found.2))
           (cases_eq i e);
       labelled = λ k l. ⊎_elim
@@ -128,9 +108,9 @@ tree-reached net colours from w s room tree nodes there free end_there begins ou
           (cases_lt k L);
       root_unlabelled = get_or-set_other w.labels e from (Some s) None (no_node 0 (omega arith)) ∙ tree.root_unlabelled;
       outside_unlabelled = λ i off. ⊎_elim
-          (λ (new : i ≡ e). absurd (false≢true (sym off ∙ holds-set_same w.reached e i mark_there new)))
+          (λ (new : i ≡ e). absurd (false≢true (sym off ∙ holds-set_at w.reached e i mark_there new)))
           (λ (old : i ≡ e → ⊥).
-          get_or-set_other w.labels e i (Some s) None old ∙ tree.outside_unlabelled i (sym (holds-set_back w.reached e i old) ∙ off))
+          get_or-set_other w.labels e i (Some s) None old ∙ tree.outside_unlabelled i (sym (holds-set_other w.reached e i old) ∙ off))
           (cases_eq i e);
     }
 
@@ -143,9 +123,6 @@ goes_on-reached w i s room there = record {
   reached = λ k held. holds-set_kept w.reached i k (omega (arith, w.sized.one_mark_each)) held;
 }
 
-pub goes_on-same : (w : Room) → GoesOn w w
-goes_on-same w = record { flows = refl; potentials = refl; longer = omega arith; walk = λ k l. refl; reached = λ i held. held }
-
 pub goes_on-further : (u v w : Room) → GoesOn u v → GoesOn v w → GoesOn u w
 goes_on-further u v w first second = record {
   flows = second.flows ∙ first.flows;
@@ -157,17 +134,10 @@ goes_on-further u v w first second = record {
 
 -- ---- the same of a search under way
 
-end-over : (g : Graph) (j : ℕ) (forward : Bool) → j < length g.arcs → end_of (bare g) (over j forward) < g.nodes
-end-over g j true there = g.good.heads j there
-end-over g j false there = g.good.tails j there
-
-pub end-there : (g : Graph) (s : Step) → s.arc.0 < length g.arcs → end_of (bare g) s < g.nodes
-end-there g s there = end-over g s.arc.0 s.forward there
-
 pub searching-room : (g : Graph) (Ready : List ℤ → List ℤ → Type 0) (paint : List ℤ → List ℤ → ℕ → Colour) (from : ℕ) (w : Room) (s : Step)
     → IsSearching g Ready paint from w → s.arc.0 < length g.arcs → holds w.reached (end_of (bare g) s) ≡ false → length w.walk < w.nodes
 searching-room g Ready paint from w s searching there outside =
-    let room = tree-room (bare g) (paint w.flows w.potentials) from (end_of (bare g) s) w searching.tree (end-there g s there) outside in
+    let room = tree-room (bare g) (paint w.flows w.potentials) from (end_of (bare g) s) w searching.tree (end-in_graph g s there) outside in
     omega (arith, searching.fits.same_nodes)
 
 pub searching-reached : (g : Graph) (Ready : List ℤ → List ℤ → Type 0) (paint : List ℤ → List ℤ → ℕ → Colour) (from : ℕ) (w : Room) (s : Step)
@@ -178,14 +148,14 @@ searching-reached g Ready paint from w s room searching there free begins outsid
   fits = searching.fits;
   ready = searching.ready;
   tree = tree-reached (bare g) (paint w.flows w.potentials) from w s room searching.tree searching.fits.same_nodes there free
-      (end-there g s there) begins outside;
+      (end-in_graph g s there) begins outside;
 }
 
 met-is : (side : List Bool) (i k : ℕ) → i < length side → holds side k ≡ false → i == k ≡ holds (set side i true) k
 met-is side i k l off =
     ⊎_elim
-    (λ (same : i ≡ k). eq-eqb i k same ∙ sym (holds-set_same side i k l (sym same)))
-    (λ (other : i ≡ k → ⊥). ne_eqb i k other ∙ sym off ∙ sym (holds-set_back side i k (λ e. other (sym e))))
+    (λ (same : i ≡ k). eq-eqb i k same ∙ sym (holds-set_at side i k l (sym same)))
+    (λ (other : i ≡ k → ⊥). ne_eqb i k other ∙ sym off ∙ sym (holds-set_other side i k (λ e. other (sym e))))
     (cases_eq i k)
 
 -- what holds once node i, where the free step s ends, is reached by it
@@ -208,13 +178,13 @@ passed g Ready paint from s i w new answer searching there free begins is answer
     subst P (sym is)
     (λ outside made.
     let room = searching-room g Ready paint from w s searching there outside in
-    let end_there : end_of (bare g) s < w.nodes = (let e = end-there g s there in omega (arith, searching.fits.same_nodes)) in
+    let end_there : end_of (bare g) s < w.nodes = (let e = end-in_graph g s there in omega (arith, searching.fits.same_nodes)) in
     let mark_there : end_of (bare g) s < length w.reached = omega (arith, w.sized.one_mark_each) in
     let Q : Room → Type 0 = IsPassed g Ready paint from s (end_of (bare g) s) w in
     subst Q (sym (made room)) (record {
       searching = searching-reached g Ready paint from w s room searching there free begins outside;
       goes_on = goes_on-reached w (end_of (bare g) s) s room end_there;
       met = λ k off. met-is w.reached (end_of (bare g) s) k mark_there off;
-      reached = holds-set_same w.reached (end_of (bare g) s) (end_of (bare g) s) mark_there refl;
+      reached = holds-set_at w.reached (end_of (bare g) s) (end_of (bare g) s) mark_there refl;
     }))
     (sym answered ∙ off) made

@@ -11,7 +11,7 @@ use Rattle.net_incidence.specs.Incidence.{incident_steps}
 use Rattle.painted_search.specs.Room.{Room}
 use Rattle.painted_search.specs.Path.{IsFreeStep}
 use Rattle.painted_search.specs.Tree.{node_at, GoesOn, AreLeft}
-use Rattle.painted_search.proofs.Degrees.{incident-stands}
+use Rattle.net_incidence.proofs.Degrees.{incident-stands}
 use Rattle.painted_search.proofs.Growing.{node_at-kept}
 
 pub free-back : (paint : List ℤ → List ℤ → ℕ → Colour) (v w : Room) (s : Step) → GoesOn v w
@@ -26,15 +26,6 @@ free-back paint v w s on free =
 abbrev pub ArePassed : Network → (List ℤ → List ℤ → ℕ → Colour) → List Step → Room → ℕ → Type 0
 ArePassed net paint steps w count =
     (k : ℕ) → k < count → IsFreeStep (paint w.flows w.potentials) (step steps k) → IsTrue (holds w.reached (end_of net (step steps k)))
-
-pub passed-more : (net : Network) (paint : List ℤ → List ℤ → ℕ → Colour) (steps : List Step) (v w : Room) (i : ℕ) → GoesOn v w
-    → ArePassed net paint steps v i
-    → (IsFreeStep (paint w.flows w.potentials) (step steps i) → IsTrue (holds w.reached (end_of net (step steps i))))
-    → ArePassed net paint steps w (i + 1)
-passed-more net paint steps v w i on before here =
-    below_more _ _
-    (λ k l free. on.reached (end_of net (step steps k)) (before k l (free-back paint v w (step steps k) on free)))
-    here
 
 pub passed-all : (g : Graph) (paint : List ℤ → List ℤ → ℕ → Colour) (steps : List Step) (w : Room) (i count : ℕ)
     → ArePassed (bare g) paint steps w count → count ≡ length steps → steps ≡ incident_steps g.arcs i

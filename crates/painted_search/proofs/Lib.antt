@@ -1,8 +1,5 @@
-pub mod Unpriced
 pub mod Rooms
 pub mod Overwriting
-pub mod Counting
-pub mod Degrees
 pub mod Growing
 pub mod Leaving
 pub mod Spending

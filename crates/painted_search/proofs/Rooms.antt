@@ -1,8 +1,9 @@
 -- A room is its counts and lists: of the facts that it carries there is only one proof.
-use Rattle.std.proofs.Common.{◌≡◌, ℕ, ◌*◌, ℤ, Bool, Option, Some, None, List, length, take, drop, refl, sym, ap, ◌∙◌, subst}
+use Rattle.std.proofs.Common.{◌≡◌, ℕ, ◌-◌, ◌*◌, ◌<◌, ℤ, Bool, Option, Some, None, List, [], ◌∷◌, length, take, drop, refl, sym, ap, ◌∙◌, subst, length-append, arith}
 use Rattle.std.proofs.Props.{props}
 use Rattle.theory.specs.declared.network.Step.{Step}
 use Rattle.painted_search.specs.Room.{IsSized, Room}
+use Rattle.painted_search.specs.Writes.{with_step}
 
 pub record Lists : Type 0 where
   pub nodes : ℕ
@@ -80,3 +81,18 @@ with_search-same v w r r' l l' k k' room reached labels walk =
     ∙ ap (λ r. with_search w r l k) reached
     ∙ ap (λ l. with_search w r' l k) labels
     ∙ ap (λ k. with_search w r' l' k) walk
+
+-- ---- a walk with one step more
+
+pub with_step-less : (w new : Room) (s : Step) → length w.walk < w.nodes → ((room : length w.walk < w.nodes) → new ≡ with_step w s room)
+    → new.nodes - length new.walk < w.nodes - length w.walk
+with_step-less w new s room made =
+    let nodes : new.nodes ≡ w.nodes = ap (λ (r : Room). r.nodes) (made room) in
+    let count = ap (λ (r : Room). length r.walk) (made room) ∙ length-append w.walk (s ∷ []) in
+    omega arith
+
+pub with_step-some : (w new : Room) (s : Step) → length w.walk < w.nodes → ((room : length w.walk < w.nodes) → new ≡ with_step w s room)
+    → 0 < length new.walk
+with_step-some w new s room made =
+    let count = ap (λ (r : Room). length r.walk) (made room) ∙ length-append w.walk (s ∷ []) in
+    omega arith

@@ -8,8 +8,9 @@ use Rattle.net_incidence.specs.Graph.{Graph, bare}
 use Rattle.net_incidence.specs.Incidence.{incident_steps}
 use Rattle.painted_search.specs.Room.{Room}
 use Rattle.painted_search.specs.Tree.{node_at, IsTree, GoesOn}
-use Rattle.painted_search.proofs.Counting.{total_below, total_below-same, total_below-distinct}
-use Rattle.painted_search.proofs.Degrees.{degrees}
+use Rattle.theory.proofs.Counting.{total_below-same, total_below-distinct}
+use Rattle.theory.specs.Sums.{total_below}
+use Rattle.net_incidence.proofs.Degrees.{degrees}
 use Rattle.painted_search.proofs.Growing.{node_at-kept}
 
 -- how many steps begin at the first nodes of the tree

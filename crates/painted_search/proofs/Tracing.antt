@@ -1,16 +1,15 @@
 -- Back along the labels. The steps that were found, last first, are a branch from the node at hand to the goal. That node's label
 -- is the step of the tree that reached it, and begins at a node with a smaller number: put in front, it makes the branch longer
 -- by one. The root has no label, and is the only reached node without one.
-use Rattle.std.proofs.Common.{◌≡◌, ◌≢◌, ℕ, zero, suc, ◌-◌, ◌<◌, ◌≤◌, IsTrue, Option, Some, None, List, [], ◌∷◌, length, reverse, refl, sym, ap, ◌∙◌, subst, length-append, arith}
+use Rattle.std.proofs.Common.{◌≡◌, ◌≢◌, ℕ, zero, suc, ◌-◌, ◌<◌, ◌≤◌, Option, Some, None, List, [], ◌∷◌, length, reverse, refl, sym, ap, ◌∙◌, subst, arith}
 use Rattle.std.proofs.lemmas.List.{reverse-append, length-reverse}
 use Rattle.std.proofs.lemmas.Option.{none-some, same_Some}
 use Rattle.theory.specs.declared.colour.Colour.{Colour}
 use Rattle.theory.specs.declared.network.Step.{Step}
 use Rattle.theory.specs.Network.{Network}
-use Rattle.theory.specs.Cut.{holds}
 use Rattle.theory.specs.Circuit.{step, begin_of}
 use Rattle.painted_search.specs.Room.{Room}
-use Rattle.painted_search.specs.Writes.{with_no_walk, with_step}
+use Rattle.painted_search.specs.Writes.{with_step}
 use Rattle.painted_search.specs.Reaching.{with_turned_walk}
 use Rattle.painted_search.specs.Path.{IsFreePath, LeadAlong, label_at}
 use Rattle.painted_search.specs.Tree.{node_at, IsTree, IsSameButWalk}
@@ -40,18 +39,6 @@ pub record IsTracing (net : Network) (from to : ℕ) (v : Room) (node : ℕ) (w 
   pub node_is : node_at net from v.walk number ≡ node
   pub branch : IsBranch net from v.walk to number (reverse w.walk)
   pub same : IsSameButWalk v w
-
-pub tracing-start : (net : Network) (colours : ℕ → Colour) (from to : ℕ) (v w : Room) → IsTree net colours from v
-    → IsTrue (holds v.reached to) → w ≡ with_no_walk v → IsTracing net from to v to w
-tracing-start net colours from to v w tree met made =
-    let found = tree.spanned to met in
-    subst (IsTracing net from to v to) (sym made) (record {
-      number = found.0;
-      within = found.1;
-      node_is = found.2;
-      branch = found.2;
-      same = record { nodes = refl; arcs = refl; flows = refl; potentials = refl; reached = refl; labels = refl };
-    })
 
 -- ---- the label of a node of the tree
 
@@ -118,13 +105,6 @@ tracing-more net colours from to v w new node begin s tree tracing label made be
       branch = subst (IsBranch net from v.walk to back.0) (sym (reverse-append w.walk (s ∷ []))) longer;
       same = same-made v w (with_step w s room) tracing.same (same-with_step w s room);
     })
-
-pub tracing-less : (w new : Room) (s : Step) → length w.walk < w.nodes → ((room : length w.walk < w.nodes) → new ≡ with_step w s room)
-    → new.nodes - length new.walk < w.nodes - length w.walk
-tracing-less w new s room made =
-    let nodes : new.nodes ≡ w.nodes = ap (λ (r : Room). r.nodes) (made room) in
-    let count = ap (λ (r : Room). length r.walk) (made room) ∙ length-append w.walk (s ∷ []) in
-    omega arith
 
 -- ---- the end
 

@@ -4,7 +4,6 @@ pub mod SizedFacts
 pub mod Writes
 pub mod Lending
 pub mod Fits
-pub mod Unpriced
 -- The answers of a search:
 pub mod Path
 -- How a search comes to them:

@@ -6,7 +6,9 @@ use std::alloc::{AllocError, Global};
 use std::marker::Model;
 use theory::{ArcId, NodeId, Step};
 
-/// A flow for each arc, a potential, a mark and a label for each node, and a walk.
+/// A flow for each arc, a potential, a mark and a label for each node, and a walk. Marks and labels speak of the last search: after
+/// it a node has no label exactly where the search didn't reach it or began there. Whoever writes them otherwise, by `mark`,
+/// `set_label` or `clear_labels`, says what they mean from then on.
 #[derive(Drop)]
 pub struct Work {
     nodes: usize,
@@ -112,7 +114,7 @@ impl Work {
         self.words[node.0 as usize] = potential;
     }
 
-    /// Whether the search reached the node.
+    /// Whether the node is marked: after a search, whether the search reached it.
     pub fn reached(&self, node: NodeId) -> bool
         requires { node.0 < self.now.nodes }
         ensures { result ≡ holds self.now.reached node.0 }
@@ -120,7 +122,7 @@ impl Work {
         self.marks[node.0 as usize]
     }
 
-    /// The step that the node was labelled by last; `search` says where there is none.
+    /// The step that the node was labelled by last: after a search, the one that reached it. `search` says where there is none.
     pub fn label(&self, node: NodeId) -> Option<Step>
         requires { node.0 < self.now.nodes }
         ensures { result ≡ slice_index_or self.now.labels node.0 None }
@@ -128,7 +130,7 @@ impl Work {
         self.labels[node.0 as usize]
     }
 
-    /// Labels the node, without a mark.
+    /// Labels the node, without a mark and without a search.
     pub fn set_label(&mut self, node: NodeId, step: Step)
         requires { node.0 < self.old.nodes }
         ensures { self.new ≡ relabelled self.old node.0 step }
@@ -136,6 +138,7 @@ impl Work {
         self.labels[node.0 as usize] = Some(step);
     }
 
+    /// No node has a label, and the marks stay.
     pub fn clear_labels(&mut self)
         ensures { self.new ≡ unlabelled self.old }
     {

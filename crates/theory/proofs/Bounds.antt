@@ -1,4 +1,9 @@
--- How large the numbers of a curve are: bounds of sums and products, of a piece's rise, of costs, of a list's length.
+-- How large the numbers of a curve are. A sum of two numbers within m and n is within m + n, a product within m * n. Between
+-- two flows within n a piece with a slope within m rises by at most m * (n + n): both flows, moved into the piece, are still
+-- within n. So a cost is within the limit of the base plus that for each piece. All items of a list but its two ends are whole,
+-- and the points among them rise, so point k is at least k above the lower limit: a list within n has at most 2 n + 1 such
+-- points, which bounds its length and with it every cost. The base of the conjugate is the greatest of finitely many values,
+-- each a number of the list times the tension at rest less the cost there.
 use Rattle.std.proofs.Common.{◌≡◌, ℕ, zero, suc, ◌+◌, ◌*◌, ◌-◌, ◌^◌, ◌/◌, ◌<◌, ◌≤◌, List, [], ◌∷◌, length, inl, inr, add-one, arith, FitsSigned}
 use Rattle.std.specs.Prelude.{ℤ, pos, negsuc, ◌+ℤ◌, ◌-ℤ◌, ◌*ℤ◌, ◌≤ℤ◌, ◌<ℤ◌}
 use Rattle.std.specs.Prelude.{unsigned_abs, Bool, true, false, if◌then◌else◌}
@@ -10,7 +15,7 @@ use Rattle.std.proofs.Math.Nat.{mul-le-mul_left}
 use Rattle.theory.specs.declared.ext.Ext.{Ext}
 use Rattle.theory.specs.declared.ext.Ext.TheVariants.{MinusInf, At, PlusInf}
 use Rattle.theory.specs.Sums.{sum_below, greatest_over, Each}
-use Rattle.theory.specs.Ends.{whole, is_finite, IsFinite, IsBelow}
+use Rattle.theory.specs.Ends.{whole, is_finite, IsFinite, IsBelow, negated}
 use Rattle.theory.specs.CurveList.{IsCurveList, Piece, item, first, last, before_last}
 use Rattle.theory.specs.Domain.{raised, lowered, clip, rest_point}
 use Rattle.theory.specs.Span.{span_low, span_high, rest_tension}
@@ -23,6 +28,9 @@ use Rattle.theory.proofs.Shape.{less_of}
 use Rattle.theory.proofs.Places.{first_at, last_at, sum_over-pieces}
 
 -- ---- sums and products
+
+pub nothing_within : (n : ℕ) → IsWithin n (pos 0)
+nothing_within n = (omega (arith, ints), omega (arith, ints))
 
 pub within_more : (m n : ℕ) (a : ℤ) → m ≤ n → IsWithin m a → IsWithin n a
 within_more m n a more h = let low = h.0 in let high = h.1 in (omega (arith, ints), omega (arith, ints))
@@ -59,7 +67,7 @@ pub within_fits128 : (n : ℕ) (a : ℤ) → IsWithin n a → n < 2 ^ 127 → Fi
 within_fits128 n a h small = fits_signed_from_abs w128 a (let e = abs_within n a h in omega arith)
 
 pub sum_below-within : (step : ℕ) (f : ℕ → ℤ) → ((k : ℕ) → IsWithin step (f k)) → (n : ℕ) → IsWithin (n * step) (sum_below n f)
-sum_below-within step f each zero = (omega (arith, ints), omega (arith, ints))
+sum_below-within step f each zero = nothing_within (0 * step)
 sum_below-within step f each (suc n) =
     within_more (n * step + step) (suc n * step) (sum_below (suc n) f) (omega arith)
     (within_sum (n * step) step (sum_below n f) (f n) (sum_below-within step f each n) (each n))
@@ -79,19 +87,21 @@ lowered_within n PlusInf x h k = k
 pub clip_within : (n : ℕ) (l r : Ext) (x : ℤ) → IsWithin n (whole l) → IsWithin n (whole r) → IsWithin n x → IsWithin n (clip 1 l r x)
 clip_within n l r x left right inside = lowered_within n r (raised 1 l x) right (raised_within n l x left inside)
 
-slope_within : (n : ℕ) (e : Ext) → IsWithin n (whole e) → IsWithin n (whole e)
-slope_within n e h = h
-
 pub rise_within : (m n : ℕ) (k : Piece) (x y : ℤ) → IsWithin m k.slope → IsWithin n (whole k.left) → IsWithin n (whole k.right) → IsWithin n x → IsWithin n y → IsWithin (m * (n + n)) (rise 1 x y k)
 rise_within m n k x y slope left right from to =
     within_product m (n + n) k.slope (clip 1 k.left k.right y -ℤ clip 1 k.left k.right x) slope
     (within_difference n n (clip 1 k.left k.right y) (clip 1 k.left k.right x) (clip_within n k.left k.right y left right to) (clip_within n k.left k.right x left right from))
 
+pub negated-within : (n : ℕ) (e : Ext) → IsWithin n (whole e) → IsWithin n (whole (negated e))
+negated-within n MinusInf h = h
+negated-within n (At a) h = let low = h.0 in let high = h.1 in (omega (arith, ints), omega (arith, ints))
+negated-within n PlusInf h = h
+
 -- ---- a list
 
 past_within : (n : ℕ) (items : List Ext) (k : ℕ) → length items ≤ k → IsWithin n (whole (item items k))
 past_within n items k past =
-    let e : item items k ≡ MinusInf = get_or_past items k MinusInf past in rw e (omega (arith, ints), omega (arith, ints))
+    let e : item items k ≡ MinusInf = get_or_past items k MinusInf past in rw e (nothing_within n)
 
 pub item_within : (n : ℕ) (items : List Ext) → AreWithin n items → (k : ℕ) → IsWithin n (whole (item items k))
 item_within n items within k =
@@ -100,7 +110,7 @@ item_within n items within k =
 pub piece_rise_within : (m n : ℕ) (items : List Ext) (from to : ℤ) (k : ℕ) → m ≤ n → AreWithin m items → IsWithin n from → IsWithin n to → IsWithin (m * (n + n)) (rise 1 from to (piece_at items k))
 piece_rise_within m n items from to k more within start end =
     rise_within m n (piece_at items k) from to
-    (slope_within m (item items (2 * k + 1)) (item_within m items within (2 * k + 1)))
+    (item_within m items within (2 * k + 1))
     (within_more m n (whole (item items (2 * k))) more (item_within m items within (2 * k)))
     (within_more m n (whole (item items (2 * k + 2))) more (item_within m items within (2 * k + 2)))
     start end
@@ -163,7 +173,7 @@ pub rest_point-within : (n : ℕ) (items : List Ext) → IsCurveList items → A
 rest_point-within n items list within =
     let low : IsWithin n (whole (first items)) = rw (← first_at items) (item_within n items within 0) in
     let high : IsWithin n (whole (last items)) = rw (← last_at items (length items - 1) (omega (arith, list.odd))) (item_within n items within (length items - 1)) in
-    clip_within n (first items) (last items) (pos 0) low high (omega (arith, ints), omega (arith, ints))
+    clip_within n (first items) (last items) (pos 0) low high (nothing_within n)
 
 pub cost-within : (b m n : ℕ) (items : List Ext) (base x : ℤ) → IsCurveList items → m ≤ n → AreWithin m items → IsWithin b base → IsWithin n x
     → IsWithin (b + length items / 2 * (m * (n + n))) (cost 1 (record { items = items; base = base }) x)
@@ -183,7 +193,7 @@ priced_within items base to k list within low inside fits =
 -- ---- the base of the conjugate
 
 greatest_over-within : (n : ℕ) (f : ℤ → ℤ) (xs : List ℤ) → Each (λ x. IsWithin n (f x)) xs → IsWithin n (greatest_over f xs)
-greatest_over-within n f [] each = (omega (arith, ints), omega (arith, ints))
+greatest_over-within n f [] each = nothing_within n
 greatest_over-within n f (x ∷ []) each = each.0
 greatest_over-within n f (x ∷ y ∷ ys) each =
     let more = greatest_over-within n f (y ∷ ys) each.1 in
@@ -220,18 +230,22 @@ infinite_or_within n true e f h k = h
 infinite_or_within n false e f h k = k
 
 before_last-within : (n : ℕ) (items : List Ext) → AreWithin n items → IsWithin n (whole (before_last items))
-before_last-within n [] within = (omega (arith, ints), omega (arith, ints))
-before_last-within n (p ∷ []) within = (omega (arith, ints), omega (arith, ints))
+before_last-within n [] within = nothing_within n
+before_last-within n (p ∷ []) within = nothing_within n
 before_last-within n (s ∷ p ∷ []) within = within 0 (omega arith)
 before_last-within n (p ∷ s ∷ r ∷ rest) within = before_last-within n (s ∷ r ∷ rest) (λ k h. within (suc k) (omega arith))
 
+pub span_low-within : (n : ℕ) (items : List Ext) → AreWithin n items → IsWithin n (whole (span_low items))
+span_low-within n items within =
+    infinite_or_within n (is_finite (first items)) MinusInf (item items 1) (nothing_within n) (item_within n items within 1)
+
+pub span_high-within : (n : ℕ) (items : List Ext) → AreWithin n items → IsWithin n (whole (span_high items))
+span_high-within n items within =
+    infinite_or_within n (is_finite (last items)) PlusInf (before_last items) (nothing_within n) (before_last-within n items within)
+
 pub rest_tension-within : (n : ℕ) (items : List Ext) → AreWithin n items → IsWithin n (rest_tension items)
 rest_tension-within n items within =
-    let none : IsWithin n (pos 0) = (omega (arith, ints), omega (arith, ints)) in
-    clip_within n (span_low items) (span_high items) (pos 0)
-    (infinite_or_within n (is_finite (first items)) MinusInf (item items 1) none (item_within n items within 1))
-    (infinite_or_within n (is_finite (last items)) PlusInf (before_last items) none (before_last-within n items within))
-    none
+    clip_within n (span_low items) (span_high items) (pos 0) (span_low-within n items within) (span_high-within n items within) (nothing_within n)
 
 conjugate_value_within : (items : List Ext) (base b : ℤ) → IsCurveList items → AreWithin number_most items → length items ≤ 4003 → IsWithin base_most base → IsWithin number_most b
     → IsWithin (2 * base_most) (rest_tension items *ℤ b -ℤ cost 1 (record { items = items; base = base }) (pos 1 *ℤ b))

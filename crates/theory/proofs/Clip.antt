@@ -1,4 +1,8 @@
--- Numbers moved into a range. Each fact holds at any two ends, of whichever order.
+-- Numbers moved into a range: raised to the lower end, then lowered to the upper one. At an infinite end nothing moves, so each
+-- fact goes case by case over the two ends, and between two finite ones it is the arithmetic of the least and the greatest of
+-- two numbers. Where two numbers come to different places x is not moved down to the end, and y not up to the beginning, since
+-- that would make them one place. A range wants its ends in order (`IsBelow`) only where both ends bind the same number.
+-- Scaling all by q scales the place by q, since q times the least of two is the least of q times each.
 use Rattle.std.proofs.Common.{◌≡◌, ℕ, ◌≤◌, true, false, ℤ, pos, ◌≤ℤ◌, ◌<ℤ◌, refl, sym, ap, ◌∙◌, arith}
 use Rattle.std.specs.Prelude.{◌*ℤ◌}
 use Rattle.std.specs.Int.{int_min, int_max}
@@ -13,24 +17,6 @@ pub raised_least : (q : ℕ) (e : Ext) (x : ℤ) → x ≤ℤ raised q e x
 raised_least q MinusInf x = omega (arith, ints)
 raised_least q (At a) x = omega (arith, ints, clamps)
 raised_least q PlusInf x = omega (arith, ints)
-
-pub raised_mono : (q : ℕ) (e : Ext) (x y : ℤ) → x ≤ℤ y → raised q e x ≤ℤ raised q e y
-raised_mono q MinusInf x y h = h
-raised_mono q (At a) x y h = omega (arith, ints, clamps)
-raised_mono q PlusInf x y h = h
-
-pub lowered_most : (q : ℕ) (e : Ext) (x : ℤ) → lowered q e x ≤ℤ x
-lowered_most q MinusInf x = omega (arith, ints)
-lowered_most q (At b) x = omega (arith, ints, clamps)
-lowered_most q PlusInf x = omega (arith, ints)
-
-pub lowered_mono : (q : ℕ) (e : Ext) (x y : ℤ) → x ≤ℤ y → lowered q e x ≤ℤ lowered q e y
-lowered_mono q MinusInf x y h = h
-lowered_mono q (At b) x y h = omega (arith, ints, clamps)
-lowered_mono q PlusInf x y h = h
-
-pub clip_mono : (q : ℕ) (l r : Ext) (x y : ℤ) → x ≤ℤ y → clip q l r x ≤ℤ clip q l r y
-clip_mono q l r x y h = lowered_mono q r (raised q l x) (raised q l y) (raised_mono q l x y h)
 
 -- what is raised is moved no more by a number that is not past the end
 raised_same : (q : ℕ) (e : Ext) (x y : ℤ) → raised q e x <ℤ raised q e y → IsPast q e y

@@ -38,6 +38,10 @@ rest_in_span q items list =
     let within = rest_in_domain q (shape_by_place (conjugate_items items) ends.is_list) in
     rw (ends.domain_low, ends.domain_high) at within
 
+-- at a scale of 1
+pub rest_tension-in_span : (items : List Ext) → IsCurveList items → InSpan 1 items (rest_tension items)
+rest_tension-in_span items list = rw (one_times (rest_tension items)) at (rest_in_span 1 items list)
+
 -- ---- the cost of the conjugate list
 
 distribute : (q a b c : ℤ) → a ≡ b +ℤ c → q *ℤ a ≡ q *ℤ b +ℤ q *ℤ c

@@ -34,12 +34,6 @@ shape_turned {m = At b} below ends = long refl ends
 shape_turned {m = PlusInf} below ends = single
 shape_turned below (goes_on {s = s} {t = t} {b = b} rises next more) = long (less_in s t rises) (rest_turned b next more)
 
-pub shape-conjugate : {items : List Ext} → Shape items → Shape (conjugate_items items)
-shape-conjugate single = long refl ends
-shape-conjugate (long {l = MinusInf} below more) = shape_turned below more
-shape-conjugate (long {l = At a} below more) = long refl (rest_turned a below more)
-shape-conjugate (long {l = PlusInf} below more) = let h : false ≡ true = below in cc
-
 -- ---- its ends and those of its span
 
 last_turned : {s : ℤ} {m : Ext} {rest : List Ext} (l : Ext) → IsBelow l m → Rest s m rest

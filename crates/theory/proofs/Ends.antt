@@ -24,14 +24,14 @@ nothing_below MinusInf h = let f : false ≡ true = h in cc
 nothing_below (At a) h = let f : false ≡ true = h in cc
 nothing_below PlusInf h = let f : false ≡ true = h in cc
 
-pub not_above : (l r : Ext) → IsBelow l r → is_below r l ≡ false
-not_above MinusInf MinusInf h = refl
-not_above MinusInf (At b) h = refl
-not_above MinusInf PlusInf h = refl
-not_above (At a) MinusInf h = let f : false ≡ true = h in cc
-not_above (At a) (At b) h = sym (omega (arith, ints))
-not_above (At a) PlusInf h = refl
-not_above PlusInf r h = let f : false ≡ true = h in cc
+pub below_asym : (l r : Ext) → IsBelow l r → is_below r l ≡ false
+below_asym MinusInf MinusInf h = refl
+below_asym MinusInf (At b) h = refl
+below_asym MinusInf PlusInf h = refl
+below_asym (At a) MinusInf h = let f : false ≡ true = h in cc
+below_asym (At a) (At b) h = sym (omega (arith, ints))
+below_asym (At a) PlusInf h = refl
+below_asym PlusInf r h = let f : false ≡ true = h in cc
 
 pub negated-negated : (e : Ext) → negated (negated e) ≡ e
 negated-negated MinusInf = refl

@@ -6,13 +6,11 @@ use Rattle.std.specs.List.{enumerate_from}
 use Rattle.std.proofs.lemmas.Bool.{cases_lt}
 use Rattle.std.proofs.lemmas.List.{length-map, get_or-map, get_or_append_left, get_or-append-add}
 use Rattle.std.proofs.lemmas.List.FromFn.{length-enumerate_from, get_or-enumerate_from}
-use Rattle.std.specs.Prelude.{[], ℤ, pos, ◌+ℤ◌}
-use Rattle.theory.specs.Sums.{sum_below}
+use Rattle.std.specs.Prelude.{[], pos}
 use Rattle.theory.specs.CurveList.{IsCurveList}
-use Rattle.theory.specs.Network.{arc_at, tail, head, curve, over_arcs}
+use Rattle.theory.specs.Network.{arc_at, tail, head, curve}
 use Rattle.theory.specs.Grounded.{NodeEntry, ArcEntry, Entries, joining, ground_arcs, model_arcs, grounded}
 use Rattle.theory.specs.CertificateLaws.{GroundedLaw}
-use Rattle.theory.proofs.SumsBelow.{sum_below-split}
 
 -- what holds of the first n numbers and of the m next ones holds of all below n + m
 pub by_number : (n m : ℕ) (P : ℕ → Type 0) → ((i : ℕ) → i < n → P i) → ((k : ℕ) → k < m → P (n + k)) → (j : ℕ) → j < n + m → P j
@@ -106,11 +104,6 @@ pub by_arc : (m : Entries) (P : ℕ → Type 0) → ((i : ℕ) → i < length m.
 by_arc m P ground model j l =
     let count = length-grounded_arcs m in
     by_number (length m.nodes) (length m.arcs) P ground model j (omega arith)
-
--- and a sum over all arcs is one over the ground arcs and one over the model arcs
-pub over_arcs-grounded : (m : Entries) (f : ℕ → ℤ)
-    → over_arcs (grounded m) f ≡ sum_below (length m.nodes) f +ℤ sum_below (length m.arcs) (λ k. f (length m.nodes + k))
-over_arcs-grounded m f = rw (length-grounded_arcs m) (sum_below-split (length m.nodes) (length m.arcs) f)
 
 pub grounded_is_network : GroundedLaw
 grounded_is_network m model =

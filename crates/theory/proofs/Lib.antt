@@ -4,11 +4,13 @@ pub mod First
 pub mod Rings
 pub mod Sums
 pub mod SumsBelow
+pub mod Counting
 -- Curve lists:
 pub mod Ends
 pub mod Shape
 pub mod Places
 pub mod Bounds
+pub mod PartialSums
 pub mod Clip
 -- Laws of curves:
 pub mod Scaling
@@ -16,6 +18,7 @@ pub mod Pairs
 pub mod Fenchel
 pub mod Equality
 pub mod Whole
+pub mod ReadingLaws
 -- Derived curves:
 pub mod ReversedList
 pub mod ReversedPairs
@@ -24,6 +27,8 @@ pub mod ZeroCost
 pub mod ConjugateList
 pub mod Parts
 pub mod ConjugateCost
+pub mod ConjugateReadings
+pub mod ViewBounds
 pub mod Rounding
 pub mod Level
 -- Networks and certificates:
@@ -31,5 +36,7 @@ pub mod SumLaw
 pub mod Duality
 pub mod Refusals
 pub mod Unbounded
+pub mod Walks
+pub mod Marks
 pub mod Certificates
 pub mod GroundedLaw

@@ -1,5 +1,9 @@
--- A list read by places: its ends, and its pieces by their numbers.
-use Rattle.std.proofs.Common.{◌≡◌, ℕ, zero, suc, ◌+◌, ◌*◌, ◌/◌, ◌<◌, ◌≤◌, ℤ, ◌+ℤ◌, true, false, List, [], ◌∷◌, length, refl, sym, ap, subst, arith}
+-- A list read by places: its ends, and its pieces by their numbers. Piece k stands between the points at 2 k and 2 k + 2 with
+-- its slope at 2 k + 1. Without its first point and slope the list has the same pieces, each with a number one lower
+-- (`piece_at-later`). So by induction on the list's shape a sum over the pieces is a sum over their numbers, its first term
+-- apart, and what holds of each piece holds of each number below their count, and the other way round. A pair of the curve
+-- is then a flow in the domain that fits with the tension at each number.
+use Rattle.std.proofs.Common.{◌≡◌, ℕ, zero, suc, ◌+◌, ◌*◌, ◌/◌, ◌<◌, ◌≤◌, ℤ, true, false, List, [], ◌∷◌, length, refl, sym, ap, subst, arith}
 use Rattle.std.proofs.lemmas.Int.{ints}
 use Rattle.theory.specs.declared.ext.Ext.{Ext}
 use Rattle.theory.specs.declared.ext.Ext.TheVariants.{At}
@@ -8,6 +12,7 @@ use Rattle.theory.specs.Sums.{sum_over, sum_below, Each}
 use Rattle.theory.specs.CurveList.{IsCurveList, Piece, pieces, item, first, last, before_last}
 use Rattle.theory.specs.OnCurve.{FitsPiece, IsOnCurve}
 use Rattle.theory.specs.PieceAt.{piece_at}
+use Rattle.theory.proofs.SumsBelow.{sum_below-front, sum_below-same}
 use Rattle.theory.proofs.Shape.{Shape, Rest, ends, goes_on, single, long, rest_even, shape_by_place}
 
 -- ---- the ends
@@ -40,14 +45,6 @@ longer (p ∷ s ∷ r ∷ rest) list endless = omega arith
 
 -- ---- the pieces
 
-sum_below-front : (n : ℕ) (f : ℕ → ℤ) → sum_below (suc n) f ≡ f 0 +ℤ sum_below n (λ k. f (suc k))
-sum_below-front zero f = omega (arith, ints)
-sum_below-front (suc n) f = let e = sum_below-front n f in omega (arith, ints)
-
-pub sum_below-same : (n : ℕ) (f g : ℕ → ℤ) → ((k : ℕ) → f k ≡ g k) → sum_below n f ≡ sum_below n g
-sum_below-same zero f g same = refl
-sum_below-same (suc n) f g same = let e = same n in let more = sum_below-same n f g same in omega (arith, ints)
-
 piece_at-later : (p s : Ext) (items : List Ext) (k : ℕ) → piece_at (p ∷ s ∷ items) (suc k) ≡ piece_at items k
 piece_at-later p s items k =
     let a : 2 * suc k ≡ suc (suc (2 * k)) = omega arith in
@@ -61,7 +58,7 @@ rest_sum f (goes_on {t = t} {b = b} {r = r} {rest = rest} rises below more) =
     let items = At b ∷ At t ∷ r ∷ rest in
     let half : length (At t ∷ r ∷ rest) / 2 ≡ suc (length rest / 2) = omega arith in
     let front = sum_below-front (length rest / 2) (λ k. f (piece_at items k)) in
-    let later = sum_below-same (length rest / 2) (λ k. f (piece_at items (suc k))) (λ k. f (piece_at (r ∷ rest) k)) (λ k. ap f (piece_at-later (At b) (At t) (r ∷ rest) k)) in
+    let later = sum_below-same (length rest / 2) (λ k. f (piece_at items (suc k))) (λ k. f (piece_at (r ∷ rest) k)) (λ k there. ap f (piece_at-later (At b) (At t) (r ∷ rest) k)) in
     let tail = rest_sum f more in
     rw half (omega (arith, ints))
 
@@ -71,7 +68,7 @@ long_sum f {s = s} {m = m} {rest = rest} l more =
     let items = l ∷ At s ∷ m ∷ rest in
     let half : length (l ∷ At s ∷ m ∷ rest) / 2 ≡ suc (length rest / 2) = omega (arith, rest_even more) in
     let front = sum_below-front (length rest / 2) (λ k. f (piece_at items k)) in
-    let later = sum_below-same (length rest / 2) (λ k. f (piece_at items (suc k))) (λ k. f (piece_at (m ∷ rest) k)) (λ k. ap f (piece_at-later l (At s) (m ∷ rest) k)) in
+    let later = sum_below-same (length rest / 2) (λ k. f (piece_at items (suc k))) (λ k. f (piece_at (m ∷ rest) k)) (λ k there. ap f (piece_at-later l (At s) (m ∷ rest) k)) in
     let tail = rest_sum f more in
     rw half (omega (arith, ints))
 

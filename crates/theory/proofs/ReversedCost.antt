@@ -20,7 +20,7 @@ use Rattle.theory.specs.Views.{reversed_items, reversed_of}
 use Rattle.theory.specs.ViewLaws.{ReversedCostLaw, ReversedConjugateCostLaw}
 use Rattle.theory.proofs.Rings.{rings, scale_mono}
 use Rattle.theory.proofs.Sums.{sum_over-each, greatest_over-same}
-use Rattle.theory.proofs.Ends.{not_above}
+use Rattle.theory.proofs.Ends.{below_asym}
 use Rattle.theory.proofs.Shape.{Shape, single, long, shape_by_place, pieces_below}
 use Rattle.theory.proofs.ReversedPairs.{Alternating, point, longer, alternating, alternating-reversed, reversed-two_more, last-reversed_of, first-reversed_of, turned}
 use Rattle.theory.proofs.ZeroCost.{below_last}
@@ -50,8 +50,8 @@ sum_over-reversed f (longer {p = p} {r = r} {s = s} {rest = rest} more) =
 
 -- ---- the cost
 
-not_above_itself : (p : ℤ) → is_below (At p) (At p) ≡ false
-not_above_itself p = sym (omega (arith, ints))
+below_asym_itself : (p : ℤ) → is_below (At p) (At p) ≡ false
+below_asym_itself p = sym (omega (arith, ints))
 
 -- a number's opposite, moved into the turned range
 pub clip-turned : (q : ℕ) (l r : Ext) (x : ℤ) → is_below r l ≡ false
@@ -71,13 +71,13 @@ turned_product s a b c d e f = rw (e, f) (omega (arith, rings))
 
 rise-turned : (q : ℕ) (y x : ℤ) (k : Piece) → IsBelow k.left k.right → rise q (neg_ℤ y) (neg_ℤ x) (turned k) ≡ rise q y x k
 rise-turned q y x k below =
-    let order = not_above k.left k.right below in
+    let order = below_asym k.left k.right below in
     turned_product k.slope _ _ _ _ (clip-turned q k.left k.right x order) (clip-turned q k.left k.right y order)
 
 -- the domain's ends are in order
 pub ordered_ends : {items : List Ext} → Shape items → is_below (last items) (first items) ≡ false
-ordered_ends (single {p = p}) = not_above_itself p
-ordered_ends (long {l = l} {m = m} {rest = rest} below more) = not_above l (last (m ∷ rest)) (below_last l below more)
+ordered_ends (single {p = p}) = below_asym_itself p
+ordered_ends (long {l = l} {m = m} {rest = rest} below more) = below_asym l (last (m ∷ rest)) (below_last l below more)
 
 rest_point-reversed : {items : List Ext} → Shape items → rest_point (reversed_items items) ≡ neg_ℤ (rest_point items)
 rest_point-reversed {items = items} shape =

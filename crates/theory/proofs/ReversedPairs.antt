@@ -4,6 +4,7 @@
 use Rattle.std.proofs.Common.{◌≡◌, ℕ, ℤ, pos, ◌*ℤ◌, ◌≤ℤ◌, neg_ℤ, List, [], ◌∷◌, ◌++◌, refl, sym, ap, ap₂, ◌∙◌, arith}
 use Rattle.std.specs.Prelude.{if◌then◌else◌}
 use Rattle.std.proofs.lemmas.List.{append_assoc}
+use Rattle.std.proofs.Math.IntN.{neg_ℤ-neg_ℤ}
 use Rattle.theory.specs.declared.ext.Ext.{Ext}
 use Rattle.theory.specs.declared.ext.Ext.TheVariants.{MinusInf, At, PlusInf}
 use Rattle.theory.specs.Sums.{Each}
@@ -167,3 +168,13 @@ reversed-pair q items x v list pair =
       in_domain = rw (first-reversed_of turns, last-reversed_of turns) (between-negated q (first items) (last items) x pair.in_domain);
       on_pieces = each-reversed (FitsPiece q (neg_ℤ x) (neg_ℤ v)) turns (Each-map (FitsPiece q x v) (λ k. FitsPiece q (neg_ℤ x) (neg_ℤ v) (turned k)) (pieces items) (fits-turned q x v) pair.on_pieces);
     }
+
+-- ---- pairs both ways, at a scale of 1
+
+pub pair_from_reversed : (items : List Ext) (x v : ℤ) → IsCurveList items → IsOnCurve 1 (reversed_items items) x v → IsOnCurve 1 items (neg_ℤ x) (neg_ℤ v)
+pair_from_reversed items x v list pair =
+    rw (reversed-items_twice items) at (reversed-pair 1 (reversed_items items) x v (reversed-is_list items list) pair)
+
+pub pair_to_reversed : (items : List Ext) (x v : ℤ) → IsCurveList items → IsOnCurve 1 items (neg_ℤ x) (neg_ℤ v) → IsOnCurve 1 (reversed_items items) x v
+pair_to_reversed items x v list pair =
+    rw (neg_ℤ-neg_ℤ x, neg_ℤ-neg_ℤ v) at (reversed-pair 1 items (neg_ℤ x) (neg_ℤ v) list pair)

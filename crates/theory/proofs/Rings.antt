@@ -96,9 +96,6 @@ pub mul_strict : (a b : ℤ) → pos 0 <ℤ a → pos 0 <ℤ b → pos 0 <ℤ (a
 mul_strict (pos n) b p h = let e = scale_strict n (pos 0) b (omega (arith, ints)) h in omega (arith, ints)
 mul_strict (negsuc n) b p h = absurd (omega (arith, ints))
 
-pub mul_strict_negatives : (a b : ℤ) → a <ℤ pos 0 → b <ℤ pos 0 → pos 0 <ℤ (a *ℤ b)
-mul_strict_negatives a b p h = let e = mul_strict (neg_ℤ a) (neg_ℤ b) (omega (arith, ints)) (omega (arith, ints)) in omega (arith, rings)
-
 times_zero : (a b : ℤ) → b ≡ pos 0 → pos 0 ≤ℤ (a *ℤ b)
 times_zero a b e = rw e (omega (arith, ints))
 

@@ -10,7 +10,7 @@ use Rattle.theory.specs.Network.{Network, IsNetwork, tail, head, over_arcs}
 use Rattle.theory.specs.Conserved.{IsConserved, outflow, inflow, divergence, tension}
 use Rattle.theory.specs.NetworkLaws.{SumLaw}
 use Rattle.theory.proofs.Rings.{rings}
-use Rattle.theory.proofs.SumsBelow.{sum_below-same, sum_below-zero, sum_below-add, sum_below-sub, sum_below-mul, sum_below-pick}
+use Rattle.theory.proofs.SumsBelow.{sum_below-same, sum_below-zero, counted-zero, sum_below-add, sum_below-sub, sum_below-mul, sum_below-pick}
 
 -- the sum over all nodes
 abbrev pub over_nodes : Network → (ℕ → ℤ) → ℤ
@@ -86,10 +86,6 @@ mark-crossing false false x = omega (arith, rings)
 mark-counted : (b : Bool) (x : ℤ) → counted b (pos 1) *ℤ x ≡ counted b x
 mark-counted true x = omega (arith, ints)
 mark-counted false x = omega (arith, ints)
-
-counted-zero : (b : Bool) (x : ℤ) → x ≡ pos 0 → counted b x ≡ pos 0
-counted-zero true x e = e
-counted-zero false x e = refl
 
 -- the divergences over a set of nodes add up to the flow across it
 pub cut_law : (net : Network) (set : ℕ → Bool) (x : ℕ → ℤ) → IsNetwork net

@@ -18,10 +18,6 @@ Each-zip P Q R (x ∷ xs) f left right = (f x left.0 right.0, Each-zip P Q R xs 
 
 -- ---- sums
 
-pub sum_over-same : {A : Type 0} (f g : A → ℤ) (xs : List A) → ((x : A) → f x ≡ g x) → sum_over f xs ≡ sum_over g xs
-sum_over-same f g [] same = refl
-sum_over-same f g (x ∷ xs) same = let e = same x in let more = sum_over-same f g xs same in omega (arith, ints)
-
 pub sum_over-each : {A : Type 0} (P : A → Type 0) (f g : A → ℤ) (xs : List A) → Each P xs → ((x : A) → P x → f x ≡ g x) → sum_over f xs ≡ sum_over g xs
 sum_over-each P f g [] each same = refl
 sum_over-each P f g (x ∷ xs) each same = let e = same x each.0 in let more = sum_over-each P f g xs each.1 same in omega (arith, ints)

@@ -1,5 +1,8 @@
--- Sums below a bound: sameness, additivity, a common factor, order, exchange, a single hit.
-use Rattle.std.proofs.Common.{◌≡◌, ◌≢◌, ℕ, zero, suc, ◌+◌, ◌<◌, ◌≤◌, ℤ, pos, ◌+ℤ◌, ◌-ℤ◌, ◌*ℤ◌, ◌≤ℤ◌, ◌==◌, refl, sym, ap, ⊎_elim, eq-eqb, arith}
+-- Sums below a bound. Each law goes by induction on the bound: of the longer sum the last term is known, and the rest is the
+-- law for the shorter one. Where one place is singled out, a term that changes, that is compared with the whole sum or that
+-- alone counts, it is the last place, and the terms before are none of its business, or it is below the last, whose term is then
+-- an ordinary one. Where no term is above its partner the sums are equal only if no term is below its partner either.
+use Rattle.std.proofs.Common.{◌≡◌, ◌≢◌, ℕ, zero, suc, ◌<◌, ◌≤◌, ℤ, pos, ◌+ℤ◌, ◌-ℤ◌, ◌*ℤ◌, ◌≤ℤ◌, Bool, true, false, ◌==◌, refl, ap, ⊎_elim, eq-eqb, arith}
 use Rattle.std.proofs.lemmas.Int.{ints}
 use Rattle.std.proofs.lemmas.Bool.{cases_lt, ne_eqb}
 use Rattle.theory.specs.Sums.{sum_below, counted}
@@ -24,6 +27,11 @@ sum_below-add zero f g = refl
 sum_below-add (suc n) f g =
     let e : sum_below n (λ k. f k +ℤ g k) ≡ sum_below n f +ℤ sum_below n g = sum_below-add n f g in
     omega (arith, ints)
+
+-- the first term apart
+pub sum_below-front : (n : ℕ) (f : ℕ → ℤ) → sum_below (suc n) f ≡ f 0 +ℤ sum_below n (λ k. f (suc k))
+sum_below-front zero f = omega (arith, ints)
+sum_below-front (suc n) f = let e = sum_below-front n f in omega (arith, ints)
 
 pub sum_below-sub : (n : ℕ) (f g : ℕ → ℤ) → sum_below n (λ k. f k -ℤ g k) ≡ sum_below n f -ℤ sum_below n g
 sum_below-sub zero f g = refl
@@ -58,25 +66,6 @@ sum_below-equal_terms (suc n) f g h total k l =
     (λ (above : n ≤ k). let same : n ≡ k = omega arith in let here : f n ≡ g n = omega (arith, ints) in rw same at here)
     (cases_lt k n)
 
--- the two orders of a double sum
-pub sum_below-swap : (m n : ℕ) (f : ℕ → ℕ → ℤ) → sum_below m (λ i. sum_below n (λ j. f i j)) ≡ sum_below n (λ j. sum_below m (λ i. f i j))
-sum_below-swap zero n f = sym (sum_below-zero n (λ j. pos 0) (λ k l. refl))
-sum_below-swap (suc m) n f =
-    let e : sum_below m (λ i. sum_below n (λ j. f i j)) ≡ sum_below n (λ j. sum_below m (λ i. f i j)) = sum_below-swap m n f in
-    let split : sum_below n (λ j. sum_below m (λ i. f i j) +ℤ f m j) ≡ sum_below n (λ j. sum_below m (λ i. f i j)) +ℤ sum_below n (λ j. f m j) =
-    sum_below-add n (λ j. sum_below m (λ i. f i j)) (λ j. f m j) in
-    omega (arith, ints)
-
--- the terms before n and those from n on
-pub sum_below-split : (n m : ℕ) (f : ℕ → ℤ) → sum_below (n + m) f ≡ sum_below n f +ℤ sum_below m (λ k. f (n + k))
-sum_below-split n zero f =
-    let e : n + 0 ≡ n = omega arith in
-    rw e (omega (arith, ints))
-sum_below-split n (suc m) f =
-    let e : n + suc m ≡ suc (n + m) = omega arith in
-    let before : sum_below (n + m) f ≡ sum_below n f +ℤ sum_below m (λ k. f (n + k)) = sum_below-split n m f in
-    rw e (omega (arith, ints))
-
 -- where one term changes the sum changes by as much
 pub sum_below-change : (n i : ℕ) (f g : ℕ → ℤ) → i < n → ((k : ℕ) → k < n → k ≢ i → g k ≡ f k)
     → sum_below n g +ℤ f i ≡ sum_below n f +ℤ g i
@@ -109,6 +98,16 @@ sum_below-term (suc n) i f l h =
     let none = sum_below-zero n (λ k. pos 0) (λ k before. refl) in
     omega (arith, ints))
     (cases_lt i n)
+
+-- ---- numbers that count where a test passes
+
+pub counted-zero : (b : Bool) (x : ℤ) → x ≡ pos 0 → counted b x ≡ pos 0
+counted-zero true x e = e
+counted-zero false x e = refl
+
+pub counted-add : (b : Bool) (x d : ℤ) → counted b (x +ℤ d) ≡ counted b x +ℤ counted b d
+counted-add true x d = refl
+counted-add false x d = refl
 
 counted-miss : (i k : ℕ) (x : ℤ) → (i ≡ k → ⊥) → counted (i == k) x ≡ pos 0
 counted-miss i k x ne = rw (ne_eqb i k ne)

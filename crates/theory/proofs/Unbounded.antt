@@ -7,7 +7,7 @@
 -- (3) Round the circuit what the steps take and bring adds up to nothing at each node, since each begins where the one
 --     before ends, so the flow stays conserved. The cost rises by at most t times the span sum, which is at most -1.
 --     So a t beyond the present cost less the bound brings the cost below the bound.
-use Rattle.std.proofs.Common.{◌≡◌, ◌≢◌, ℕ, suc, ◌<◌, ℤ, pos, negsuc, ◌+ℤ◌, ◌-ℤ◌, ◌*ℤ◌, neg_ℤ, ◌≤ℤ◌, ◌<ℤ◌, Bool, true, false, ◌==◌, if◌then◌else◌, List, [], ◌∷◌, length, set, refl, ap, ◌∙◌, ⊎_elim, get_or-set_same, get_or-set_other, length-set, arith}
+use Rattle.std.proofs.Common.{◌≡◌, ◌≢◌, ℕ, suc, ◌<◌, ℤ, pos, negsuc, ◌+ℤ◌, ◌-ℤ◌, ◌*ℤ◌, neg_ℤ, ◌≤ℤ◌, ◌<ℤ◌, Bool, true, false, ◌==◌, if◌then◌else◌, List, [], ◌∷◌, length, ap, ◌∙◌, ⊎_elim, get_or-set_same, get_or-set_other, length-set, arith}
 use Rattle.std.proofs.lemmas.Int.{ints}
 use Rattle.std.proofs.lemmas.Bool.{cases_eq}
 use Rattle.theory.specs.declared.ext.Ext.{Ext}
@@ -22,10 +22,11 @@ use Rattle.theory.specs.Cost.{cost}
 use Rattle.theory.specs.Network.{Network, IsNetwork, «at», tail, head, curve}
 use Rattle.theory.specs.Conserved.{IsConserved, divergence}
 use Rattle.theory.specs.Totals.{total_cost}
-use Rattle.theory.specs.Circuit.{begin_of, end_of, WalkIsThere, span_end, span_sum, SpanCounts}
+use Rattle.theory.specs.Circuit.{begin_of, end_of, WalkIsThere, passing_end, span_end, span_sum, SpanCounts}
+use Rattle.theory.specs.Sent.{sends, sent, sent_round}
 use Rattle.theory.specs.NetworkLaws.{UnboundedLaw}
 use Rattle.theory.proofs.Rings.{rings, scale_mono}
-use Rattle.theory.proofs.SumsBelow.{sum_below-change}
+use Rattle.theory.proofs.SumsBelow.{sum_below-change, counted-add}
 use Rattle.theory.proofs.Shape.{shape_by_place}
 use Rattle.theory.proofs.Pairs.{tension_of_flow}
 use Rattle.theory.proofs.Fenchel.{supports}
@@ -34,15 +35,6 @@ use Rattle.theory.proofs.SumLaw.{divergence-conserved}
 use Rattle.theory.proofs.Refusals.{at_most_end, at_least_end, around}
 
 -- ---- (1) one arc
-
--- what t units change the flow of an arc by
-abbrev pub sends : ℕ → Bool → ℤ
-sends t true = pos t
-sends t false = neg_ℤ (pos t)
-
--- the end of the span that a step adds to the span sum
-abbrev pub end_passed : List Ext → Bool → Ext
-end_passed items forward = if forward then span_high items else (negated (span_low items))
 
 least_on : (e : Ext) (x y : ℤ) → x ≤ℤ y → IsAtLeast 1 e x → IsAtLeast 1 e y
 least_on MinusInf x y up least = tt
@@ -65,7 +57,7 @@ no_lower_end MinusInf slope x finite = tt
 no_lower_end (At a) slope x finite = let h : false ≡ true = finite in cc
 no_lower_end PlusInf slope x finite = tt
 
-pub stays : (items : List Ext) (t : ℕ) (forward : Bool) (x : ℤ) → IsFinite (end_passed items forward)
+pub stays : (items : List Ext) (t : ℕ) (forward : Bool) (x : ℤ) → IsFinite (passing_end items forward)
     → InDomain 1 items x → InDomain 1 items (x +ℤ sends t forward)
 stays items t true x finite within =
     record {
@@ -79,8 +71,8 @@ stays items t false x finite within =
     }
 
 -- a tension of the span asks of a step at most t times the end
-asks : (items : List Ext) (t : ℕ) (forward : Bool) (v : ℤ) → IsFinite (end_passed items forward) → InSpan 1 items v
-    → (v *ℤ sends t forward) ≤ℤ (pos t *ℤ whole (end_passed items forward))
+asks : (items : List Ext) (t : ℕ) (forward : Bool) (v : ℤ) → IsFinite (passing_end items forward) → InSpan 1 items v
+    → (v *ℤ sends t forward) ≤ℤ (pos t *ℤ whole (passing_end items forward))
 asks items t true v finite within =
     let bound = at_most_end 1 (span_high items) v finite within.most in
     let scaled = scale_mono t v (whole (span_high items)) (omega (arith, ints)) in
@@ -94,31 +86,24 @@ asks items t false v finite within =
 risen : (v x d f g h : ℤ) → (v *ℤ x +ℤ pos 1 *ℤ g) ≤ℤ (v *ℤ (x +ℤ d) +ℤ pos 1 *ℤ f) → (v *ℤ d) ≤ℤ h → g ≤ℤ (f +ℤ h)
 risen v x d f g h bears most = omega (arith, rings)
 
-pub cost_rises : (c : Listing) (t : ℕ) (forward : Bool) (x : ℤ) → IsCurveList c.items → IsFinite (end_passed c.items forward)
-    → InDomain 1 c.items x → cost 1 c (x +ℤ sends t forward) ≤ℤ (cost 1 c x +ℤ pos t *ℤ whole (end_passed c.items forward))
+pub cost_rises : (c : Listing) (t : ℕ) (forward : Bool) (x : ℤ) → IsCurveList c.items → IsFinite (passing_end c.items forward)
+    → InDomain 1 c.items x → cost 1 c (x +ℤ sends t forward) ≤ℤ (cost 1 c x +ℤ pos t *ℤ whole (passing_end c.items forward))
 cost_rises c t forward x list finite within =
     let shape = shape_by_place c.items list in
     let y = x +ℤ sends t forward in
     let tension = tension_of_flow c.items y list (stays c.items t forward x finite within) in
     let v = tension.0 in
-    risen v x (sends t forward) (cost 1 c x) (cost 1 c y) (pos t *ℤ whole (end_passed c.items forward))
+    risen v x (sends t forward) (cost 1 c x) (cost 1 c y) (pos t *ℤ whole (passing_end c.items forward))
     (supports 1 c y v x shape tension.1 within)
     (asks c.items t forward v finite (in_span 1 y v shape tension.1))
 
 -- ---- (2) one step
-
-abbrev pub sent : ℕ → Step → List ℤ → List ℤ
-sent t s x = set x s.arc.0 («at» x s.arc.0 +ℤ sends t s.forward)
 
 sent_there : (t : ℕ) (s : Step) (x : List ℤ) → s.arc.0 < length x → «at» (sent t s x) s.arc.0 ≡ «at» x s.arc.0 +ℤ sends t s.forward
 sent_there t s x there = get_or-set_same x s.arc.0 («at» x s.arc.0 +ℤ sends t s.forward) (pos 0) there
 
 sent_elsewhere : (t : ℕ) (s : Step) (x : List ℤ) (k : ℕ) → k ≢ s.arc.0 → «at» (sent t s x) k ≡ «at» x k
 sent_elsewhere t s x k apart = get_or-set_other x s.arc.0 k («at» x s.arc.0 +ℤ sends t s.forward) (pos 0) apart
-
-counted-add : (b : Bool) (x d : ℤ) → counted b (x +ℤ d) ≡ counted b x +ℤ counted b d
-counted-add true x d = refl
-counted-add false x d = refl
 
 -- what leaves or enters a node changes by d if the arc has that end there
 by_one : (m : ℕ) (end : ℕ → ℕ) (i a : ℕ) (d : ℤ) (x y : ℕ → ℤ) → a < m → y a ≡ x a +ℤ d → ((k : ℕ) → k ≢ a → y k ≡ x k)
@@ -186,10 +171,6 @@ step_cost net t s x good same there finite within =
     omega (arith, ints)
 
 -- ---- (3) round the circuit
-
-abbrev pub sent_round : ℕ → List Step → List ℤ → List ℤ
-sent_round t [] x = x
-sent_round t (s ∷ walk) x = sent_round t walk (sent t s x)
 
 -- what the steps of a walk bring to node i, for one unit
 abbrev pub brought : Network → ℕ → List Step → ℤ

@@ -1,7 +1,7 @@
 -- Walk, circuit, span sum. A walk is a list of steps over arcs, forward or backward. A circuit is a closed walk that
 -- begins from no node twice and passes no arc twice. The span sum of a walk is the upper span ends of its forward arcs
 -- less the lower span ends of its backward arcs (Rockafellar: the span of a path). It counts where all these ends are finite.
-use Rattle.std.specs.Prelude.{◌≡◌, ◌≢◌, ℕ, ◌+◌, ◌<◌, ℤ, pos, ◌<ℤ◌, false, if◌then◌else◌, List, length, slice_index_or}
+use Rattle.std.specs.Prelude.{◌≡◌, ◌≢◌, ℕ, ◌+◌, ◌<◌, ℤ, pos, ◌<ℤ◌, Bool, false, if◌then◌else◌, List, length, slice_index_or}
 use Rattle.theory.specs.declared.ext.Ext.{Ext}
 use Rattle.theory.specs.declared.network.Step.{Step}
 use Rattle.theory.specs.Sums.{sum_over, Each}
@@ -30,9 +30,13 @@ pub record IsCircuit (net : Network) (walk : List Step) : Type 0 where
 abbrev pub WalkIsThere : Network → List Step → Type 0
 WalkIsThere net walk = (k : ℕ) → k < length walk → (step walk k).arc.0 < length net.arcs
 
+-- the end that a curve adds to the sum, by the direction of the step
+abbrev pub passing_end : List Ext → Bool → Ext
+passing_end items forward = if forward then span_high items else (negated (span_low items))
+
 -- what a step adds to the sum
 abbrev pub span_end : Network → Step → Ext
-span_end net s = if s.forward then span_high (curve net s.arc.0).items else (negated (span_low (curve net s.arc.0).items))
+span_end net s = passing_end (curve net s.arc.0).items s.forward
 
 abbrev pub SpanCounts : Network → List Step → Type 0
 SpanCounts net walk = Each (λ s. IsFinite (span_end net s)) walk

@@ -12,10 +12,12 @@ pub mod OnCurve
 pub mod Views
 pub mod Readings
 pub mod Limits
+pub mod PartialSum
 pub mod PieceAt
 -- Laws of curves:
 pub mod CurveLaws
 pub mod ViewLaws
+pub mod ReadingLaws
 -- Networks:
 pub mod Network
 pub mod Conserved
@@ -24,6 +26,7 @@ pub mod Totals
 pub mod Best
 pub mod Cut
 pub mod Circuit
+pub mod Sent
 pub mod Painting
 pub mod Grounded
 pub mod Certificate

@@ -1,8 +1,38 @@
--- Limits of the numbers of curves and certificates.
-use Rattle.std.specs.Prelude.{ℕ, ◌^◌, ◌<◌, ℤ, pos, neg_ℤ, ◌≤ℤ◌, List, length}
+-- Limits: of a model, of the numbers of curves and certificates, and of a file. Each is written here and nowhere else;
+-- the constants of the code are proved to be these numbers where a clause cites them.
+use Rattle.std.specs.Prelude.{ℕ, ◌+◌, ◌^◌, ◌<◌, ℤ, pos, neg_ℤ, ◌≤ℤ◌, List, length}
 use Rattle.theory.specs.declared.ext.Ext.{Ext}
 use Rattle.theory.specs.Ends.{whole}
 use Rattle.theory.specs.CurveList.{item}
+
+-- ---- of a model
+
+-- the most nodes and the most arcs
+abbrev pub nodes_most : ℕ
+nodes_most = 2000
+
+abbrev pub arcs_most : ℕ
+arcs_most = 10000
+
+-- of its network with the ground: one node more, and one arc more for each node
+abbrev pub grounded_nodes_most : ℕ
+grounded_nodes_most = nodes_most + 1
+
+abbrev pub grounded_arcs_most : ℕ
+grounded_arcs_most = nodes_most + arcs_most
+
+-- the most items of a curve list
+abbrev pub list_most : ℕ
+list_most = 4001
+
+-- the most bytes of a name, and of a file
+abbrev pub name_most : ℕ
+name_most = 64
+
+abbrev pub file_most : ℕ
+file_most = 4194304
+
+-- ---- of numbers
 
 -- the magnitude is at most this
 abbrev pub IsWithin : ℕ → ℤ → Type 0

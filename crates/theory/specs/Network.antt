@@ -2,6 +2,7 @@
 -- Flows and potentials are numbers for each arc and for each node: functions of the number. A list stands for the
 -- function `at`, which is 0 past its end.
 use Rattle.std.specs.Prelude.{◌≡◌, ◌≢◌, ℕ, ◌<◌, ℤ, pos, List, [], ◌∷◌, length, slice_index_or}
+use Rattle.theory.specs.declared.ext.Ext.{Ext}
 use Rattle.theory.specs.declared.ext.Ext.TheVariants.{At}
 use Rattle.theory.specs.declared.network.Arc.{Arc}
 use Rattle.theory.specs.Sums.{sum_below}
@@ -27,6 +28,10 @@ head net j = (arc_at net.arcs j).to.0
 
 abbrev pub curve : Network → ℕ → Listing
 curve net j = slice_index_or net.curves j (record { items = At (pos 0) ∷ []; base = pos 0 })
+
+-- curve lists alone, one for each arc: the list of arc j
+abbrev pub list_at : List (List Ext) → ℕ → List Ext
+list_at lists j = slice_index_or lists j (At (pos 0) ∷ [])
 
 -- the sum over all arcs
 abbrev pub over_arcs : Network → (ℕ → ℤ) → ℤ

@@ -1,13 +1,13 @@
-// Cost, domain, span and the pairs of a curve, by a scan over its list: the plain program beside the definitions.
-// The helpers read one piece or one end, so that every way of keeping a list can share them.
-ghost use Rattle.std.specs.Prelude.{◌≡◌, ◌↔◌, ◌*◌, ◌^◌, pos, ◌*ℤ◌, ◌≤ℤ◌, IsTrue};
-ghost use Rattle.theory.specs.Ends.{is_finite, whole, IsAtLeast, IsAtMost, IsBetween, IsPast, IsBefore};
+// One end, one piece, and the domain and span of a list: the plain program beside the definitions. Every way of keeping a
+// list shares what reads one end or one piece.
+ghost use Rattle.std.specs.Prelude.{◌≡◌, ◌↔◌, pos, ◌*ℤ◌, ◌≤ℤ◌, IsTrue};
+ghost use Rattle.theory.specs.Ends.{is_finite, whole, is_below, IsAtLeast, IsAtMost, IsBetween, IsPast, IsBefore};
 ghost use Rattle.theory.specs.CurveList.{IsCurveList, first, last};
 ghost use Rattle.theory.specs.Domain.{raised, lowered, clip};
-ghost use Rattle.theory.specs.Cost.{cost, rise};
+ghost use Rattle.theory.specs.Cost.{rise};
 ghost use Rattle.theory.specs.Span.{span_low, span_high};
-ghost use Rattle.theory.specs.OnCurve.{FitsPiece, IsOnCurve};
-ghost use Rattle.theory.specs.Limits.{AreWithin, number_most, base_most, IsWithin, flow_most};
+ghost use Rattle.theory.specs.OnCurve.{FitsPiece};
+ghost use Rattle.theory.specs.Limits.{number_most, IsWithin};
 ghost use Rattle.theory.specs.PieceAt.{piece_of};
 
 use crate::Ext;
@@ -31,6 +31,13 @@ pub fn whole_of(end: Ext) -> i64
         Ext::At(a) => a,
         Ext::MinusInf | Ext::PlusInf => 0,
     }
+}
+
+/// Whether the end is strictly below the other.
+pub fn precedes(end: Ext, other: Ext) -> bool
+    ensures { result ≡ is_below end other }
+{
+    end < other
 }
 
 fn raised_to(end: Ext, x: i64) -> i64
@@ -159,39 +166,4 @@ pub fn span_of(items: &[Ext]) -> (Ext, Ext)
         items[items.len() - 2]
     };
     (low, high)
-}
-
-/// Whether the flow `x` and the tension `v` are a pair of the curve.
-pub fn on_curve(items: &[Ext], x: i64, v: i64) -> bool
-    requires { IsCurveList items.now }
-    ensures { IsTrue result ↔ IsOnCurve 1 items.now x v }
-{
-    let (low, high) = domain_of(items);
-    if !is_between(low, high, x) {
-        return false;
-    }
-    for k in 0..items.len() / 2 {
-        if !fits_piece(items[2 * k], items[2 * k + 1], items[2 * k + 2], x, v) {
-            return false;
-        }
-    }
-    true
-}
-
-/// The cost of the flow `x`.
-pub fn cost_at(items: &[Ext], base: i128, x: i64) -> i128
-    requires list { IsCurveList items.now }
-    requires items_within { AreWithin number_most items.now }
-    requires base_within { IsWithin (2 * base_most) base }
-    requires flow_within { IsWithin (2 * flow_most) x }
-    ensures value { result ≡ cost 1 (record { items = items.now; base = base }) x }
-    ensures within { IsWithin (10 ^ 28) result }
-{
-    let (low, high) = domain_of(items);
-    let rest = clip_to(low, high, 0);
-    let mut total = base;
-    for k in 0..items.len() / 2 {
-        total += rise_of(items[2 * k], items[2 * k + 1], items[2 * k + 2], rest, x);
-    }
-    total
 }

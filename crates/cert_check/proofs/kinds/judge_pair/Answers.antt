@@ -22,7 +22,7 @@ returns-then-value-right c =
     let right_fits : SFits w128 c.total_value-right.result = search rules in (
       record { conserved = c.in_default.ensures.none; on_curves = c.in_default-first_off_curve.ensures.none },
       inr (
-        cost_is ∙ c.total_cost-right.ensures,
+        cost_is ∙ c.total_cost-right.ensures.value,
         record {
           wrong = λ e. wrong (e ∙ sym c.total_value-right.ensures);
           stated_is = to_z-of_z stated_fits;

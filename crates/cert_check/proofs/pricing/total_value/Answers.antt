@@ -2,10 +2,11 @@ use Rattle.std.proofs.Common.{◌≡◌, ℕ, ◌+◌, ◌*◌, ◌^◌, ◌≤�
 use mir.Syntax.{w64, w128}
 use Rattle.std.proofs.lemmas.Int.{ints}
 use Rattle.theory.specs.ConjugateCost.{conjugate_cost}
+use Rattle.theory.specs.Limits.{grounded_arcs_most}
 use Rattle.theory.specs.Network.{Network, «at», curve}
 use Rattle.theory.specs.Conserved.{tension}
-use Rattle.cert_check.specs.PartialSum.{IsPartialSum}
-use Rattle.cert_check.proofs.PartialSums.{partial-further}
+use Rattle.theory.specs.PartialSum.{IsPartialSum}
+use Rattle.theory.proofs.PartialSums.{partial-further}
 use Rattle.cert_check.proofs.pricing.total_value.Goals as goal
 
 pub loop-j-preserved : goal.loop-j-preserved
@@ -21,8 +22,8 @@ loop-j-preserved c =
     let low = further.within.0 in
     let high = further.within.1 in
     let count : length c.net.result.now.arcs ≡ length net.arcs = ap (λ (n : Network). length n.arcs) c.net.ensures in
-    let few : length net.arcs ≤ 12000 = c.args.g.now.good.few_arcs in
-    let place : c.loop-j.j + 1 ≤ 12000 = omega (arith, c.arcs-j-end.ensures, c.loop-j-test.true) in
+    let few : length net.arcs ≤ grounded_arcs_most = c.args.g.now.good.few_arcs in
+    let place : c.loop-j.j + 1 ≤ grounded_arcs_most = omega (arith, c.arcs-j-end.ensures, c.loop-j-test.true) in
     let fits : SFits w128 (c.loop-j.total -ℤ c.dual_at-total.result) = omega (arith, ints) in
     let turned : neg_ℤ (c.loop-j.total -ℤ c.dual_at-total.result) ≡ neg_ℤ c.loop-j.total +ℤ c.dual_at-total.result = omega (arith, ints) in
     rw (c.loop-j.total-is, to_z-of_z dual_fits, to_z-of_z fits, turned) further

@@ -2,7 +2,7 @@ use Rattle.std.proofs.Common.{◌^◌, ◌*◌, neg_ℤ}
 use Rattle.theory.specs.ConjugateCost.{conjugate_cost}
 use Rattle.theory.specs.Network.{«at», curve}
 use Rattle.theory.specs.Conserved.{tension}
-use Rattle.cert_check.specs.PartialSum.{IsPartialSum}
+use Rattle.theory.specs.PartialSum.{IsPartialSum}
 use Rattle.cert_check.proofs.pricing.total_value.Given as goal
 
 abbrev pub invariant-loop-j : goal.invariant-loop-j

@@ -1,8 +1,11 @@
+-- What is still to be sent, from the k-th step on, makes of the flows at hand what the whole walk makes of the flows at the beginning:
+-- a step more takes the first of those that are left. Each step moves one flow by the amount, so after k steps none is further from 0
+-- than k amounts more, and the walk is no longer than the nodes are many: all fits.
 use Rattle.std.proofs.Common.{◌≡◌, ◌+◌, ◌*◌, ◌<◌, ◌≤◌, length, ap, ◌∙◌, arith}
 use Rattle.std.proofs.Math.Nat.{mul-le-mul_left}
 use Rattle.theory.specs.declared.network.Step.{Step}
 use Rattle.theory.specs.Circuit.{step}
-use Rattle.theory.proofs.Unbounded.{sent}
+use Rattle.theory.specs.Sent.{sent}
 use Rattle.painted_search.specs.Room.{Room, count_most}
 use Rattle.feasible_flow.specs.Violations.{near_most}
 use Rattle.feasible_flow.proofs.Sending.{sends-fits, sent-on, sent-within}

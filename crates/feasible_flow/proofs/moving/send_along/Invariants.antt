@@ -1,7 +1,7 @@
 use Rattle.std.proofs.Common.{◌≡◌, ℕ, ◌+◌, ◌*◌, drop}
 use Rattle.theory.specs.Network.{«at»}
 use Rattle.theory.specs.Limits.{IsWithin}
-use Rattle.theory.proofs.Unbounded.{sent_round}
+use Rattle.theory.specs.Sent.{sent_round}
 use Rattle.feasible_flow.specs.Violations.{near_most}
 use Rattle.feasible_flow.specs.UnderWay.{IsSameButFlows}
 use Rattle.feasible_flow.proofs.moving.send_along.Given as goal

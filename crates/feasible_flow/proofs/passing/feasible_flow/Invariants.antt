@@ -12,5 +12,5 @@ invariant-loop-j g l = record {
   potentials : l.work.potentials ≡ l.fn.work.potentials;
   no_fewer : l.fn.steps ≤ l.steps;
   count : l.steps + readings_left l.net (map g.C.Monotone.items l.domains.curves.now) l.work.flows
-      ≤ l.fn.steps + (violation_most (length l.net.arcs) + l.j) * round_cost l.net.nodes (length l.net.arcs);
+      ≤ l.fn.steps + length l.net.arcs + (violation_most (length l.net.arcs) + l.j) * round_cost l.net.nodes (length l.net.arcs);
 }

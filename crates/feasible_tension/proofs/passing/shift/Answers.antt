@@ -1,3 +1,5 @@
+-- Potentials are subtracted one after the other. That of node 0 was read before, so it doesn't matter that it becomes 0 first; all are
+-- small, so that no difference leaves its type.
 use Rattle.std.proofs.Common.{◌<◌, length, refl, ◌∙◌, arith}
 use Rattle.std.proofs.lemmas.Int.{ints}
 use Rattle.feasible_tension.proofs.Shifting.{shifting-more}

@@ -1,6 +1,6 @@
 use Rattle.std.proofs.Common.{ℕ, ◌<◌, pos, map}
 use Rattle.theory.specs.Span.{InSpan}
-use Rattle.kilter_solver.specs.Along.{list_at}
+use Rattle.theory.specs.Network.{list_at}
 use Rattle.kilter_solver.proofs.tests.is_level.Given as goal
 
 abbrev pub invariant-loop-j : goal.invariant-loop-j

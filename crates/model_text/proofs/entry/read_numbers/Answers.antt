@@ -1,15 +1,33 @@
-use Rattle.std.proofs.Common.{◌≡◌, rules, sym, ◌∙◌, refl, true, false, map}
-use Rattle.model_text.specs.LineParts.{texts}
-use Rattle.model_text.specs.ModelText.{are_over, is_over, line_items, line_base}
-use Rattle.model_text.specs.NearNumbers.{near_item, near_number}
-use Rattle.model_text.proofs.EntryLemmas.{beyond_long, beyond_kept, items_kept, base_kept}
+-- Each test that was made is the next of the table. The items and the base are kept exactly where they are within the limit.
+use Rattle.std.proofs.Common.{◌≡◌, rules, sym, ◌∙◌, ap, subst, refl, true, false, map, None, Err}
+use Rattle.std.specs.Prelude.{is_none}
+use Rattle.model_text.specs.LineParts.{texts, item_tests, Passes}
+use Rattle.model_text.specs.ModelText.{are_over, is_over, first_fault, list_words, line_items}
+use Rattle.model_text.specs.NearNumbers.{near_item}
+use Rattle.model_text.proofs.EntryLemmas.{beyond_long, beyond_kept, items_kept, numbers-lacking, numbers-there, list-refused}
+use Rattle.model_text.proofs.FirstPlace.{none_left}
 use Rattle.model_text.proofs.entry.read_numbers.Goals as goal
+
+pub returns-in_err-items-clause-tests : goal.returns-in_err-items-clause-tests
+returns-in_err-items-clause-tests c =
+    let words = texts c.args.line.now.words.now in
+    let names = sym c.lacks_names.ensures ∙ c.if-lacks_names.false in
+    let same : c.from_residual.result ≡ Err c.in_err-items.field-0.0 = search rules in
+    rw same (list-refused words c.in_err-items.field-0.0 names (subst (Passes (item_tests (list_words words))) c.in_err-items.was c.items.ensures.tests))
+
+pub returns-in_default-clause-tests : goal.returns-in_default-clause-tests
+returns-in_default-clause-tests c =
+    let words = texts c.args.line.now.words.now in
+    let names = sym c.lacks_names.ensures ∙ c.if-lacks_names.false in
+    let none = sym c.base.ensures.none ∙ ap is_none (none_left c.base.result c.in_default.not-Some) in
+    rw (names, numbers-lacking words none) refl
 
 pub returns-then-is_long-clause-tests : goal.returns-then-is_long-clause-tests
 returns-then-is_long-clause-tests c =
     let words = texts c.args.line.now.words.now in
     let names = sym c.lacks_names.ensures ∙ c.if-lacks_names.false in
-    let numbers = sym c.lacks_numbers.ensures ∙ c.if-lacks_numbers.false in
+    let listed : first_fault (item_tests (list_words words)) ≡ None = subst (Passes (item_tests (list_words words))) c.in_ok-items.was c.items.ensures.tests in
+    let numbers = numbers-there words listed (sym c.base.ensures.none ∙ ap is_none c.in-Some.is) in
     let beyond = beyond_long words (sym c.is_long.ensures ∙ c.if-is_long.true) in
     rw (names, numbers, beyond) refl
 
@@ -17,11 +35,11 @@ pub returns-then-are_over-clause-tests : goal.returns-then-are_over-clause-tests
 returns-then-are_over-clause-tests c =
     let words = texts c.args.line.now.words.now in
     let names = sym c.lacks_names.ensures ∙ c.if-lacks_names.false in
-    let numbers = sym c.lacks_numbers.ensures ∙ c.if-lacks_numbers.false in
+    let listed : first_fault (item_tests (list_words words)) ≡ None = subst (Passes (item_tests (list_words words))) c.in_ok-items.was c.items.ensures.tests in
+    let numbers = numbers-there words listed (sym c.base.ensures.none ∙ ap is_none c.in-Some.is) in
     let short = sym c.is_long.ensures ∙ c.if-is_long.false in
-    let items_is : c.deref.result.now ≡ map near_item (line_items words) = search rules in
-    let base_is : c.base-base.result ≡ near_number (line_base words) = search rules in
-    let kept = beyond_kept words c.deref.result.now c.base-base.result items_is base_is short in
+    let items_is : c.deref.result.now ≡ map near_item (line_items words) = c.deref.ensures.value ∙ c.in_ok-items.ensures.items in
+    let kept = beyond_kept words c.deref.result.now c.in-Some.base items_is c.in-Some.ensures.base short in
     let over : are_over c.deref.result.now ≡ true = search rules in
     rw (names, numbers, kept, over) refl
 
@@ -29,39 +47,31 @@ pub returns-then-is_over-clause-tests : goal.returns-then-is_over-clause-tests
 returns-then-is_over-clause-tests c =
     let words = texts c.args.line.now.words.now in
     let names = sym c.lacks_names.ensures ∙ c.if-lacks_names.false in
-    let numbers = sym c.lacks_numbers.ensures ∙ c.if-lacks_numbers.false in
+    let listed : first_fault (item_tests (list_words words)) ≡ None = subst (Passes (item_tests (list_words words))) c.in_ok-items.was c.items.ensures.tests in
+    let numbers = numbers-there words listed (sym c.base.ensures.none ∙ ap is_none c.in-Some.is) in
     let short = sym c.is_long.ensures ∙ c.if-is_long.false in
-    let items_is : c.deref.result.now ≡ map near_item (line_items words) = search rules in
-    let base_is : c.base-base.result ≡ near_number (line_base words) = search rules in
-    let kept = beyond_kept words c.deref.result.now c.base-base.result items_is base_is short in
+    let items_is : c.deref.result.now ≡ map near_item (line_items words) = c.deref.ensures.value ∙ c.in_ok-items.ensures.items in
+    let kept = beyond_kept words c.deref.result.now c.in-Some.base items_is c.in-Some.ensures.base short in
     let within : are_over c.deref.result.now ≡ false = search rules in
-    let over : is_over c.base-base.result ≡ true = search rules in
+    let over : is_over c.in-Some.base ≡ true = search rules in
     rw (names, numbers, kept, within, over) refl
 
 pub returns-clause-tests : goal.returns-clause-tests
 returns-clause-tests c =
     let words = texts c.args.line.now.words.now in
     let names = sym c.lacks_names.ensures ∙ c.if-lacks_names.false in
-    let numbers = sym c.lacks_numbers.ensures ∙ c.if-lacks_numbers.false in
+    let listed : first_fault (item_tests (list_words words)) ≡ None = subst (Passes (item_tests (list_words words))) c.in_ok-items.was c.items.ensures.tests in
+    let numbers = numbers-there words listed (sym c.base.ensures.none ∙ ap is_none c.in-Some.is) in
     let short = sym c.is_long.ensures ∙ c.if-is_long.false in
-    let items_is : c.deref.result.now ≡ map near_item (line_items words) = search rules in
-    let base_is : c.base-base.result ≡ near_number (line_base words) = search rules in
-    let kept = beyond_kept words c.deref.result.now c.base-base.result items_is base_is short in
+    let items_is : c.deref.result.now ≡ map near_item (line_items words) = c.deref.ensures.value ∙ c.in_ok-items.ensures.items in
+    let kept = beyond_kept words c.deref.result.now c.in-Some.base items_is c.in-Some.ensures.base short in
     let within : are_over c.deref.result.now ≡ false = search rules in
-    let base_within : is_over c.base-base.result ≡ false = search rules in
+    let base_within : is_over c.in-Some.base ≡ false = search rules in
     rw (names, numbers, kept, within, base_within) refl
 
 pub returns-clause-items : goal.returns-clause-items
 returns-clause-items c =
     let words = texts c.args.line.now.words.now in
-    let items_is : c.deref.result.now ≡ map near_item (line_items words) = search rules in
+    let items_is : c.deref.result.now ≡ map near_item (line_items words) = c.deref.ensures.value ∙ c.in_ok-items.ensures.items in
     let within : are_over c.deref.result.now ≡ false = search rules in
     sym c.deref.ensures.value ∙ items_kept words c.deref.result.now items_is within
-
-pub returns-clause-base : goal.returns-clause-base
-returns-clause-base c =
-    let words = texts c.args.line.now.words.now in
-    let base_is : c.base-base.result ≡ near_number (line_base words) = search rules in
-    let within : is_over c.base-base.result ≡ false = search rules in
-    let kept = base_kept words c.base-base.result base_is within in
-    rw (← kept) (search rules)

@@ -3,7 +3,7 @@ use Rattle.std.specs.Int.{w64}
 use Rattle.theory.specs.Span.{rest_tension}
 use Rattle.theory.specs.Limits.{number_most, flow_most}
 use Rattle.theory.proofs.Bounds.{within_more, rest_tension-within}
-use Rattle.curve_views.proofs.FlowOf.{rest_tension-in_span}
+use Rattle.theory.proofs.ConjugateCost.{rest_tension-in_span}
 use Rattle.curve_views.proofs.conjugate.ConjugateListed.base.Goals as goal
 
 pub dual_at-requires-clause-inside : goal.dual_at-requires-clause-inside

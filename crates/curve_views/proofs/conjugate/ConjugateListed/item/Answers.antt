@@ -1,7 +1,7 @@
 use Rattle.std.proofs.Common.{◌≡◌, ◌∙◌, sym, true, false, arith}
 use Rattle.theory.specs.Ends.{is_finite}
 use Rattle.theory.specs.CurveList.{first}
-use Rattle.curve_views.specs.ConjugateFacts.{conjugate_short}
+use Rattle.theory.proofs.ViewBounds.{conjugate_short}
 use Rattle.curve_views.proofs.TurnedList.{item-endless, item-ended}
 use Rattle.curve_views.proofs.conjugate.ConjugateListed.item.Goals as goal
 

@@ -1,5 +1,5 @@
 use Rattle.std.proofs.Common.{to_z-of_z}
-use Rattle.curve_views.proofs.ConjugateReadings.{range-conjugate}
+use Rattle.theory.proofs.ConjugateReadings.{range-conjugate}
 use Rattle.curve_views.proofs.conjugate.ConjugateMonotone.range_at.Goals as goal
 
 pub returns-clause-range : goal.returns-clause-range

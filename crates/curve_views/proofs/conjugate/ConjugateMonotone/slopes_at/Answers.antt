@@ -1,5 +1,5 @@
 use Rattle.std.proofs.Common.{to_z-of_z}
-use Rattle.curve_views.proofs.ConjugateReadings.{slopes-conjugate}
+use Rattle.theory.proofs.ConjugateReadings.{slopes-conjugate}
 use Rattle.curve_views.proofs.conjugate.ConjugateMonotone.slopes_at.Goals as goal
 
 pub returns-clause-slopes : goal.returns-clause-slopes

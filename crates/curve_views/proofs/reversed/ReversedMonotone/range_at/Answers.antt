@@ -3,7 +3,7 @@ use Rattle.std.specs.Prelude.{neg_ℤ}
 use Rattle.std.specs.Int.{w64}
 use Rattle.theory.specs.Limits.{number_most}
 use Rattle.theory.specs.Readings.{IsRange}
-use Rattle.curve_views.proofs.ReadingBounds.{AreEndsWithin, range-within}
+use Rattle.mono_curve.proofs.ReadingBounds.{AreEndsWithin, range-within}
 use Rattle.curve_views.proofs.ReversedReadings.{range-reversed}
 use Rattle.curve_views.proofs.reversed.ReversedMonotone.range_at.Given.{Over}
 use Rattle.curve_views.proofs.reversed.ReversedMonotone.range_at.Goals as goal

@@ -2,7 +2,7 @@ use Rattle.std.proofs.Common.{◌∙◌, sym, ap}
 use Rattle.theory.specs.Ends.{negated}
 use Rattle.theory.specs.Limits.{number_most}
 use Rattle.theory.proofs.ReversedPairs.{span_low-reversed, span_high-reversed}
-use Rattle.curve_views.proofs.ReadingBounds.{span-within}
+use Rattle.mono_curve.proofs.ReadingBounds.{span-within}
 use Rattle.curve_views.proofs.reversed.ReversedMonotone.span.Goals as goal
 
 pub opposite_ends-requires-clause-high : goal.opposite_ends-requires-clause-high

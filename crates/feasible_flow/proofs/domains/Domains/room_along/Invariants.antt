@@ -1,7 +1,6 @@
 use Rattle.std.proofs.Common.{ℕ, ◌+◌, ◌<◌, ◌≤◌, map}
-use Rattle.theory.specs.Network.{«at»}
+use Rattle.theory.specs.Network.{«at», list_at}
 use Rattle.theory.specs.Circuit.{step}
-use Rattle.feasible_flow.specs.Painting.{list_at}
 use Rattle.feasible_flow.specs.Violations.{HasRoom}
 use Rattle.feasible_flow.proofs.domains.Domains.room_along.Given as goal
 

@@ -1,3 +1,4 @@
+-- The room of a free step is the distance to the end of the domain that it leads to.
 use Rattle.std.proofs.Common.{get_or, ap, ◌∙◌, rules, w64, SFits, to_z-of_z}
 use Rattle.theory.specs.Network.{«at»}
 use Rattle.feasible_flow.specs.Violations.{distance}

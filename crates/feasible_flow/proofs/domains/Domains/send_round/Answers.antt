@@ -1,9 +1,11 @@
+-- A path closes a circuit over the arc that lacks flow, and what goes round it lowers the violations; without a path the reached nodes
+-- are a negative cut.
 use Rattle.std.proofs.Common.{map, ◌∷◌, ap, ◌∙◌, arith}
 use Rattle.std.proofs.lemmas.List.{length-map}
-use Rattle.theory.proofs.Unbounded.{sent_round}
+use Rattle.theory.specs.Sent.{sent_round}
 use Rattle.feasible_flow.proofs.Lists.{are-curves}
-use Rattle.feasible_flow.proofs.Rounds.{nearer-sent, need-within}
-use Rattle.feasible_flow.proofs.CutSum.{negative-cut}
+use Rattle.feasible_flow.proofs.ViolationFalls.{nearer-sent, need-within}
+use Rattle.feasible_flow.proofs.CutIsNegative.{negative-cut}
 use Rattle.feasible_flow.proofs.domains.Domains.send_round.Goals as goal
 
 pub send_around-requires-clause-amount_near : goal.send_around-requires-clause-amount_near

@@ -1,7 +1,9 @@
+-- What was read are the span's ends and the tension. A tension between them holds both bounds of the arc; one that passes an end
+-- does so by a step over the arc whose bound is that end, within the limit, and the node where the step ends is lowered to it.
 use Rattle.std.proofs.Common.{◌<◌, length, map, refl, sym, ap, ◌∙◌, subst, arith, rules, SFits, w64, to_z, of_z, to_z-of_z}
 use Rattle.theory.specs.Ends.{whole}
 use Rattle.theory.specs.Limits.{number_most, IsWithin}
-use Rattle.painted_search.specs.Unpriced.{unpriced}
+use Rattle.net_incidence.specs.WithoutBases.{without_bases}
 use Rattle.feasible_tension.specs.Bounds.{IsExamined}
 use Rattle.feasible_tension.specs.Passed.{IsPassedBy}
 use Rattle.feasible_tension.proofs.Bounded.{bounded, span_end-within}
@@ -11,7 +13,7 @@ use Rattle.feasible_tension.proofs.relaxing.Spans.examine.Goals as goal
 pub returns-in_err-step-clause-examined : goal.returns-in_err-step-clause-examined
 returns-in_err-step-clause-examined g c =
     let lists = map g.C.Monotone.items c.args.self.now.curves.now in
-    let net = unpriced c.args.self.now.net.now lists in
+    let net = without_bases c.args.self.now.net.now lists in
     let ends = ends-read g.C.Monotone.items c.args.self.now.net.now c.args.self.now.curves.now c.index-self-arc.result c.args.arc.0
     c.span-low.result.0 c.span-low.result.1 (omega (arith, c.requires.there, c.requires.passable.one_curve_each))
     c.span-low.ensures.low c.span-low.ensures.high in
@@ -25,7 +27,7 @@ returns-in_err-step-clause-examined g c =
 pub lower-requires-clause-within : goal.lower-requires-clause-within
 lower-requires-clause-within g c =
     let lists = map g.C.Monotone.items c.args.self.now.curves.now in
-    let net = unpriced c.args.self.now.net.now lists in
+    let net = without_bases c.args.self.now.net.now lists in
     let ends = ends-read g.C.Monotone.items c.args.self.now.net.now c.args.self.now.curves.now c.index-self-arc.result c.args.arc.0
     c.span-low.result.0 c.span-low.result.1 (omega (arith, c.requires.there, c.requires.passable.one_curve_each))
     c.span-low.ensures.low c.span-low.ensures.high in
@@ -43,7 +45,7 @@ lower-requires-clause-within g c =
 pub lower-requires-clause-bound : goal.lower-requires-clause-bound
 lower-requires-clause-bound g c =
     let lists = map g.C.Monotone.items c.args.self.now.curves.now in
-    let net = unpriced c.args.self.now.net.now lists in
+    let net = without_bases c.args.self.now.net.now lists in
     let ends = ends-read g.C.Monotone.items c.args.self.now.net.now c.args.self.now.curves.now c.index-self-arc.result c.args.arc.0
     c.span-low.result.0 c.span-low.result.1 (omega (arith, c.requires.there, c.requires.passable.one_curve_each))
     c.span-low.ensures.low c.span-low.ensures.high in
@@ -57,7 +59,7 @@ lower-requires-clause-bound g c =
 pub returns-clause-examined : goal.returns-clause-examined
 returns-clause-examined g c =
     let lists = map g.C.Monotone.items c.args.self.now.curves.now in
-    let net = unpriced c.args.self.now.net.now lists in
+    let net = without_bases c.args.self.now.net.now lists in
     let ends = ends-read g.C.Monotone.items c.args.self.now.net.now c.args.self.now.curves.now c.index-self-arc.result c.args.arc.0
     c.span-low.result.0 c.span-low.result.1 (omega (arith, c.requires.there, c.requires.passable.one_curve_each))
     c.span-low.ensures.low c.span-low.ensures.high in

@@ -1,8 +1,8 @@
 use Rattle.std.proofs.Common.{◌<◌, length, map, ap, ◌∙◌, arith}
 use Rattle.std.proofs.lemmas.Int.{ints}
 use Rattle.theory.specs.Network.{«at»}
-use Rattle.painted_search.specs.Unpriced.{unpriced}
-use Rattle.feasible_tension.proofs.Bounded.{begin-in_graph}
+use Rattle.net_incidence.specs.WithoutBases.{without_bases}
+use Rattle.net_incidence.proofs.Graphs.{begin-in_graph}
 use Rattle.feasible_tension.proofs.Examining.{lowered-made}
 use Rattle.feasible_tension.proofs.relaxing.Spans.lower.Goals as goal
 
@@ -18,5 +18,5 @@ returns-clause-lowered g c =
     let small_low = c.requires.small.low c.begin.result.0 there in
     let small_high = c.requires.small.high c.begin.result.0 there in
     let bound_is = c.requires.bound in
-    lowered-made (unpriced c.args.self.now.net.now (map g.C.Monotone.items c.args.self.now.curves.now)) c.args.work.now _ _ c.args.step c.end-end.result.0 _
+    lowered-made (without_bases c.args.self.now.net.now (map g.C.Monotone.items c.args.self.now.curves.now)) c.args.work.now _ _ c.args.step c.end-end.result.0 _
     c.set_potential.ensures c.set_label.ensures c.end-end.ensures (omega (arith, ints))

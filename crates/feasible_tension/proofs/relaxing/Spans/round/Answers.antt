@@ -1,5 +1,8 @@
+-- A place of a round has an arc, and the arc's place is that: so after k places just the arcs at these are examined. After the last
+-- one all are, so the round is over, and every bound holds if it lowered no node. Numbers stay small since each examined arc lowers a
+-- potential by one span end at most.
 use Rattle.std.proofs.Common.{◌≡◌, ◌<◌, ◌+◌, map, length, sym, ap, ◌∙◌, subst, arith}
-use Rattle.painted_search.specs.Unpriced.{unpriced}
+use Rattle.net_incidence.specs.WithoutBases.{without_bases}
 use Rattle.feasible_tension.specs.Relaxing.{place, IsRelaxing}
 use Rattle.feasible_tension.proofs.Bounded.{bounded}
 use Rattle.feasible_tension.proofs.Lowering.{place-place, place-there, relaxing-more}
@@ -9,14 +12,14 @@ use Rattle.feasible_tension.proofs.relaxing.Spans.round.Goals as goal
 
 pub examine-requires-clause-small : goal.examine-requires-clause-small
 examine-requires-clause-small g c =
-    relaxing-small (unpriced c.args.self.now.net.now (map g.C.Monotone.items c.args.self.now.curves.now)) c.args.round c.loop-k.k c.args.self.now.net.now.nodes
+    relaxing-small (without_bases c.args.self.now.net.now (map g.C.Monotone.items c.args.self.now.curves.now)) c.args.round c.loop-k.k c.args.self.now.net.now.nodes
     c.loop-k.changed c.loop-k.work c.loop-k.invariant.relaxing c.requires.few (omega arith)
     (omega (arith, c.loop-k.invariant.kept.nodes, c.requires.fits.same_nodes, c.loop-k.work.sized.few_nodes))
     (omega (arith, c.loop-k.invariant.kept.arcs, c.requires.fits.same_arcs, c.loop-k.work.sized.few_arcs))
 
 pub loop-k-preserved : goal.loop-k-preserved
 loop-k-preserved g c =
-    let net = unpriced c.args.self.now.net.now (map g.C.Monotone.items c.args.self.now.curves.now) in
+    let net = without_bases c.args.self.now.net.now (map g.C.Monotone.items c.args.self.now.curves.now) in
     let good = bounded g.C.Monotone.items c.args.self.now.net.now c.args.self.now.curves.now c.requires.passable.one_curve_each
     g.met.C.Monotone.is_list g.met.C.Monotone.items_within in
     let arcs : c.arcs-arcs.result ≡ length net.arcs = c.arcs-arcs.ensures in
@@ -37,7 +40,7 @@ loop-k-preserved g c =
 
 pub returns-clause-deep : goal.returns-clause-deep
 returns-clause-deep g c =
-    let net = unpriced c.args.self.now.net.now (map g.C.Monotone.items c.args.self.now.curves.now) in
+    let net = without_bases c.args.self.now.net.now (map g.C.Monotone.items c.args.self.now.curves.now) in
     let all : c.loop-k.k ≡ length c.args.self.now.net.now.arcs = omega arith in
     let whole : IsRelaxing net c.args.round (length net.arcs) c.loop-k.changed c.loop-k.work =
     subst (λ k. IsRelaxing net c.args.round k c.loop-k.changed c.loop-k.work) all c.loop-k.invariant.relaxing in
@@ -45,7 +48,7 @@ returns-clause-deep g c =
 
 pub returns-clause-relaxing : goal.returns-clause-relaxing
 returns-clause-relaxing g c =
-    let net = unpriced c.args.self.now.net.now (map g.C.Monotone.items c.args.self.now.curves.now) in
+    let net = without_bases c.args.self.now.net.now (map g.C.Monotone.items c.args.self.now.curves.now) in
     let all : c.loop-k.k ≡ length c.args.self.now.net.now.arcs = omega arith in
     let whole : IsRelaxing net c.args.round (length net.arcs) c.loop-k.changed c.loop-k.work =
     subst (λ k. IsRelaxing net c.args.round k c.loop-k.changed c.loop-k.work) all c.loop-k.invariant.relaxing in
@@ -53,7 +56,7 @@ returns-clause-relaxing g c =
 
 pub returns-clause-held : goal.returns-clause-held
 returns-clause-held g c none =
-    let net = unpriced c.args.self.now.net.now (map g.C.Monotone.items c.args.self.now.curves.now) in
+    let net = without_bases c.args.self.now.net.now (map g.C.Monotone.items c.args.self.now.curves.now) in
     let all : c.loop-k.k ≡ length c.args.self.now.net.now.arcs = omega arith in
     let whole : IsRelaxing net c.args.round (length net.arcs) c.loop-k.changed c.loop-k.work =
     subst (λ k. IsRelaxing net c.args.round k c.loop-k.changed c.loop-k.work) all c.loop-k.invariant.relaxing in

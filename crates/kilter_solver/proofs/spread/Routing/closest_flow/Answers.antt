@@ -1,8 +1,7 @@
 use Rattle.std.proofs.Common.{◌≡◌, ℤ, sym, subst, ◌∙◌, w64, SFits, to_z, of_z, to_z-of_z, rules}
-use Rattle.theory.specs.Network.{«at»}
+use Rattle.theory.specs.Network.{«at», list_at}
 use Rattle.theory.specs.Conserved.{tension}
 use Rattle.net_incidence.specs.Graph.{bare}
-use Rattle.kilter_solver.specs.Along.{list_at}
 use Rattle.kilter_solver.specs.Clamping.{IsClosestFlow}
 use Rattle.kilter_solver.proofs.Clamps.{closest-flow}
 use Rattle.kilter_solver.proofs.spread.Routing.closest_flow.Goals as goal

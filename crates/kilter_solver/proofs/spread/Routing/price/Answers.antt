@@ -1,7 +1,7 @@
 use Rattle.std.proofs.Common.{rules, ◌∙◌, w64, SFits, to_z, of_z, to_z-of_z}
 use Rattle.theory.specs.Limits.{number_most}
-use Rattle.curve_views.proofs.ReadingBounds.{slopes-within}
-use Rattle.kilter_solver.specs.Along.{list_at}
+use Rattle.mono_curve.proofs.ReadingBounds.{slopes-within}
+use Rattle.theory.specs.Network.{list_at}
 use Rattle.kilter_solver.proofs.Prices.{price-forward, price-backward}
 use Rattle.kilter_solver.proofs.spread.Routing.price.Goals as goal
 

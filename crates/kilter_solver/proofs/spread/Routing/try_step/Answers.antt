@@ -5,7 +5,8 @@ use Rattle.theory.specs.Cut.{holds}
 use Rattle.theory.specs.Circuit.{begin_of, end_of}
 use Rattle.net_incidence.specs.Graph.{bare}
 use Rattle.kilter_solver.specs.Spread.{level, IsImproved}
-use Rattle.kilter_solver.proofs.Spreading.{near-done, begin_below, key-within}
+use Rattle.net_incidence.proofs.Graphs.{begin-in_graph}
+use Rattle.kilter_solver.proofs.Spreading.{near-done, key-within}
 use Rattle.kilter_solver.proofs.Relaxing.{tried-settled, tried-barred, step-tried}
 use Rattle.kilter_solver.proofs.spread.Routing.try_step.Goals as goal
 
@@ -15,14 +16,14 @@ returns-then-reached-clause-tried g c =
     let done : IsTrue (holds c.args.work.now.reached (end_of (bare net) c.args.step)) =
     ap (holds c.args.work.now.reached) (sym c.end-end.ensures) ∙ sym c.reached.ensures ∙ c.if-reached.true in
     tried-settled net (g.B.Bundle.lists c.args.self.now.bundle.now) c.args.source.0 c.args.work.now c.args.step (pos 0) (pos 0)
-    c.requires.ready.on_curves c.requires.there c.requires.spread (begin_below net c.args.step c.requires.there) done
+    c.requires.ready.on_curves c.requires.there c.requires.spread (begin-in_graph net c.args.step c.requires.there) done
 
 pub offer-offer-requires-clause-near : goal.offer-offer-requires-clause-near
 offer-offer-requires-clause-near g c =
     let net = c.args.self.now.net.now in
     let from = begin_of (bare net) c.args.step in
     key-within net (g.B.Bundle.lists c.args.self.now.bundle.now) c.args.source.0 from c.args.work.now from c.requires.spread c.requires.ready
-    (near-done c.args.work.now from (c.requires.spread.opened_done (begin_below net c.args.step c.requires.there)))
+    (near-done c.args.work.now from (c.requires.spread.opened_done (begin-in_graph net c.args.step c.requires.there)))
 
 pub returns-in-Some : goal.returns-in-Some
 returns-in-Some g c =

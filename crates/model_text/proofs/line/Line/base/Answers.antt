@@ -1,11 +1,9 @@
-use Rattle.std.proofs.Common.{rules}
-use Rattle.model_text.proofs.LineLemmas.{base-absent, base-there}
+use Rattle.model_text.specs.LineParts.{texts}
+use Rattle.model_text.proofs.LineLemmas.{line_base-is}
 use Rattle.model_text.proofs.line.Line.base.Goals as goal
 
-pub returns-in_default : goal.returns-in_default
-returns-in_default c = rw (base-absent c.args.self.now.base.now c.args.self.now.parts c.in_default.len_below)
+pub returns-clause-none : goal.returns-clause-none
+returns-clause-none c = rw (← c.args.self.now.parts.base) c.base_of.ensures.none
 
-pub returns-in-len2-up : goal.returns-in-len2-up
-returns-in-len2-up c =
-    let there = base-there c.args.self.now.base.now c.args.self.now.parts c.in-len2-up.len_at_least in
-    rw there (search rules)
+pub returns-clause-base : goal.returns-clause-base
+returns-clause-base c = rw (← line_base-is (texts c.args.self.now.base.now) c.args.self.now.parts) c.base_of.ensures.base

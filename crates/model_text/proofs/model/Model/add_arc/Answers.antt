@@ -1,33 +1,21 @@
--- The name has no place among the names, so the table puts its row last. The model is well-formed with that row, and
--- as it was where memory ran out.
-use Rattle.std.proofs.Common.{sym, ap, subst, ◌∙◌, ◌<◌, length, arith}
-use Rattle.model_text.specs.declared.model.TheConstants.{ARCS_MOST}
-use Rattle.model_text.specs.Model.{arc_names, with_arc, IsWithinLimits, IsWellFormed}
-use Rattle.model_text.specs.ModelTables.{table_entries}
-use Rattle.model_text.specs.Names.{IsName}
-use Rattle.model_text.proofs.Tables.{arc_inserted, arc_keeps, either_way, free}
+-- The tests that were passed are those that the row wants: the name is free, the ends differ, and there is room.
+use Rattle.std.proofs.Common.{◌≡◌, sym, ap, ◌∙◌, refl, ◌<◌, length, false, arith}
+use Rattle.std.specs.Prelude.{◌==◌, is_some, nat_le}
+use Rattle.std.proofs.lemmas.List.{length-map}
+use Rattle.std.proofs.lemmas.Bool.Decides.{nat_tests}
+use Rattle.theory.specs.Limits.{arcs_most}
+use Rattle.model_text.specs.ModelTables.{arc_entry}
+use Rattle.model_text.specs.Model.{arc_names, place_of}
 use Rattle.model_text.proofs.model.Model.add_arc.Goals as goal
 
-pub invariant_of-self-inside : goal.invariant_of-self-inside
-invariant_of-self-inside c =
-    let nodes = c.self.inside.nodes.entries in
-    let arcs = c.self.inside.arcs.entries in
-    let key = c.into_vec.result in
-    let none = free c.arc_of.result _ _ key.items _ _ (sym c.is_some.ensures ∙ c.if-is_some.false) c.arc_of.ensures.place c.as_slice.ensures c.into_vec.ensures (ap (λ m. arc_names m.entries) c.self.view_is) in
-    let room : length arcs < ARCS_MOST = omega (arith, c.len-position.ensures.len) in
-    let small : IsWithinLimits c.args.curve.listing = record { short = c.requires.short; items = c.args.curve.valid.items_within; base = c.requires.base } in
-    let nodes_is = ap (λ m. length m.entries.nodes) c.self.view_is in (
-      either_way (λ rows. IsWellFormed (table_entries nodes rows)) c.insert.result arcs _ _ c.insert.ensures.entries c.insert.ensures.err c.self.inside.formed
-          (arc_keeps nodes arcs key (record { from = c.args.from; to = c.args.to; curve = c.args.curve }) c.self.inside.formed (subst IsName (sym c.into_vec.ensures) c.args.name.named) none room (omega (arith, nodes_is)) (omega (arith, nodes_is)) c.if-from-to.false small),
-      tt,
-    )
-
-pub returns-in-Ok-clause-added : goal.returns-in-Ok-clause-added
-returns-in-Ok-clause-added c =
-    let nodes = c.self.inside.nodes.entries in
-    let arcs = c.self.inside.arcs.entries in
-    let key = c.into_vec.result in
-    let none = free c.arc_of.result _ _ key.items _ _ (sym c.is_some.ensures ∙ c.if-is_some.false) c.arc_of.ensures.place c.as_slice.ensures c.into_vec.ensures (ap (λ m. arc_names m.entries) c.self.view_is) in
-    ap (λ rows. table_entries nodes rows) c.in-Ok.ensures.entries ∙ arc_inserted nodes arcs key (record { from = c.args.from; to = c.args.to; curve = c.args.curve }) none
-    ∙ ap (λ m. with_arc m.entries key.items c.args.from c.args.to c.args.curve.listing) c.self.view_is
-    ∙ ap (λ name. with_arc c.args.self.now.entries name c.args.from c.args.to c.args.curve.listing) c.into_vec.ensures
+pub push_arc-requires-clause-free : goal.push_arc-requires-clause-free
+push_arc-requires-clause-free c =
+    let m = c.args.self.now.entries in
+    let once : is_some (place_of (arc_names m) c.args.name.bytes) ≡ false =
+    ap is_some (ap (place_of (arc_names m)) (sym c.as_slice.ensures) ∙ sym c.arc_of.ensures.place) ∙ sym c.is_some.ensures ∙ c.if-is_some.false in
+    let apart : (c.args.from == c.args.to) ≡ false = grind (arith, nat_tests) in
+    let there = length-map c.self.inside.arcs.entries arc_entry in
+    let same = ap (λ m. length m.entries.arcs) c.self.view_is in
+    let below : length m.arcs < arcs_most = omega (arith, c.len.ensures.len, there, same) in
+    let room : nat_le arcs_most (length m.arcs) ≡ false = grind (arith, nat_tests) in
+    rw (once, apart, room) refl

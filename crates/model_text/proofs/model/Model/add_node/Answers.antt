@@ -1,32 +1,20 @@
--- The name has no place among the names, so the table puts its row last. The model is well-formed with that row, and
--- as it was where memory ran out.
-use Rattle.std.proofs.Common.{sym, ap, subst, ◌∙◌, ◌<◌, length, arith}
-use Rattle.model_text.specs.declared.model.TheConstants.{NODES_MOST}
-use Rattle.model_text.specs.Model.{node_names, with_node, IsWithinLimits, IsWellFormed}
-use Rattle.model_text.specs.ModelTables.{table_entries}
-use Rattle.model_text.specs.Names.{IsName}
-use Rattle.model_text.proofs.Tables.{node_inserted, node_keeps, either_way, free}
+-- The tests that were passed are those that the row wants: the name is free, and there is room.
+use Rattle.std.proofs.Common.{◌≡◌, sym, ap, ◌∙◌, refl, ◌<◌, length, false, arith}
+use Rattle.std.specs.Prelude.{is_some, nat_le}
+use Rattle.std.proofs.lemmas.List.{length-map}
+use Rattle.std.proofs.lemmas.Bool.Decides.{nat_tests}
+use Rattle.theory.specs.Limits.{nodes_most}
+use Rattle.model_text.specs.ModelTables.{node_entry}
+use Rattle.model_text.specs.Model.{node_names, place_of}
 use Rattle.model_text.proofs.model.Model.add_node.Goals as goal
 
-pub invariant_of-self-inside : goal.invariant_of-self-inside
-invariant_of-self-inside c =
-    let nodes = c.self.inside.nodes.entries in
-    let arcs = c.self.inside.arcs.entries in
-    let key = c.into_vec.result in
-    let none = free c.node_of.result _ _ key.items _ _ (sym c.is_some.ensures ∙ c.if-is_some.false) c.node_of.ensures.place c.as_slice.ensures c.into_vec.ensures (ap (λ m. node_names m.entries) c.self.view_is) in
-    let room : length nodes < NODES_MOST = omega (arith, c.len-position.ensures.len) in
-    let small : IsWithinLimits c.args.supply.listing = record { short = c.requires.short; items = c.args.supply.valid.items_within; base = c.requires.base } in (
-      either_way (λ rows. IsWellFormed (table_entries rows arcs)) c.insert.result nodes _ _ c.insert.ensures.entries c.insert.ensures.err c.self.inside.formed
-          (node_keeps nodes arcs key c.args.supply c.self.inside.formed (subst IsName (sym c.into_vec.ensures) c.args.name.named) none room small),
-      tt,
-    )
-
-pub returns-in-Ok-clause-added : goal.returns-in-Ok-clause-added
-returns-in-Ok-clause-added c =
-    let nodes = c.self.inside.nodes.entries in
-    let arcs = c.self.inside.arcs.entries in
-    let key = c.into_vec.result in
-    let none = free c.node_of.result _ _ key.items _ _ (sym c.is_some.ensures ∙ c.if-is_some.false) c.node_of.ensures.place c.as_slice.ensures c.into_vec.ensures (ap (λ m. node_names m.entries) c.self.view_is) in
-    ap (λ rows. table_entries rows arcs) c.in-Ok.ensures.entries ∙ node_inserted nodes arcs key c.args.supply none
-    ∙ ap (λ m. with_node m.entries key.items c.args.supply.listing) c.self.view_is
-    ∙ ap (λ name. with_node c.args.self.now.entries name c.args.supply.listing) c.into_vec.ensures
+pub push_node-requires-clause-free : goal.push_node-requires-clause-free
+push_node-requires-clause-free c =
+    let m = c.args.self.now.entries in
+    let once : is_some (place_of (node_names m) c.args.name.bytes) ≡ false =
+    ap is_some (ap (place_of (node_names m)) (sym c.as_slice.ensures) ∙ sym c.node_of.ensures.place) ∙ sym c.is_some.ensures ∙ c.if-is_some.false in
+    let there = length-map c.self.inside.nodes.entries node_entry in
+    let same = ap (λ m. length m.entries.nodes) c.self.view_is in
+    let below : length m.nodes < nodes_most = omega (arith, c.len.ensures.len, there, same) in
+    let room : nat_le nodes_most (length m.nodes) ≡ false = grind (arith, nat_tests) in
+    rw (once, room) refl

@@ -1,0 +1,129 @@
+-- The statuses that the answer to a question may have. A further question is one more line in `ends`, and one in
+-- `answer_ends`; that no other status is due follows for all of them at once.
+use Rattle.std.proofs.Common.{◌≡◌, ◌≢◌, ℕ, Bool, true, false, List, sym, ap, ◌∙◌, refl, Option, Some, None, inl, inr}
+use Rattle.std.proofs.lemmas.Bool.{false≢true}
+use Rattle.theory.specs.Grounded.{Entries}
+use Rattle.theory.specs.Certificate.{Certificate}
+use Rattle.theory.specs.Certificate.Certificate.{optimal, cut, circuit}
+use Rattle.model_text.specs.Model.{arc_names, place_of}
+use Rattle.cert_text.specs.declared.feasible.FlowPart.{FlowPart}
+use Rattle.cert_text.specs.declared.feasible.FlowPart.TheVariants.{Yes as YesFlow, No as NoFlow}
+use Rattle.cert_text.specs.declared.feasible.TensionPart.{TensionPart}
+use Rattle.cert_text.specs.declared.feasible.TensionPart.TheVariants.{Yes as YesTension, No as NoTension}
+use Rattle.cert_check.specs.declared.judged.Judged.{Judged}
+use Rattle.cert_check.specs.declared.judged.Judged.TheVariants.{Accepted}
+use Rattle.outside_io.specs.Seen.{Outside}
+use Rattle.mono_top.specs.Answer.{AnswersModel, ReadsThen}
+use Rattle.mono_top.specs.Checks.{ChecksText, status_by}
+use Rattle.mono_top.specs.Due.{IsDueOfFiles}
+use Rattle.mono_top.specs.FindsFeasible.{status_of_parts}
+use Rattle.mono_top.specs.Request.{Question, solve, check, feasible, show_curve, later_files}
+use Rattle.mono_top.specs.ShowsCurve.{ShowsAt}
+use Rattle.mono_top.specs.Solves.{status_of}
+use Rattle.mono_top.specs.declared.lines.Place.TheVariants.{Second}
+use Rattle.mono_top.specs.declared.status.Status.{Status}
+use Rattle.mono_top.specs.declared.status.Status.TheVariants.{Done, Cut, Circuit, Rejected, Missing, ReadFault, WriteFault, NoMemory, TooLong, UnknownArc}
+use Rattle.mono_top.proofs.ModelFileLemmas.{IsRead, of_none, of_last}
+
+-- ---- statuses as tests
+
+abbrev pub is_kind : Status → Bool
+is_kind Done = true
+is_kind Cut = true
+is_kind Circuit = true
+is_kind status = false
+
+abbrev pub is_judgement : Status → Bool
+is_judgement Done = true
+is_judgement Rejected = true
+is_judgement status = false
+
+abbrev pub is_showing : Status → Bool
+is_showing Done = true
+is_showing UnknownArc = true
+is_showing status = false
+
+-- or a later file was refused
+abbrev pub or_refused : (Status → Bool) → Status → Bool
+or_refused own Missing = true
+or_refused own ReadFault = true
+or_refused own TooLong = true
+or_refused own status = own status
+
+abbrev pub ends : Question → Status → Bool
+ends solve = is_kind
+ends (check certificate) = or_refused is_judgement
+ends feasible = is_kind
+ends (show_curve arc) = is_showing
+
+-- a status that passes a test is none that fails it
+pub not_by : (test : Status → Bool) (status other : Status) → test status ≡ true → test other ≡ false → status ≢ other
+not_by test status other passed failed same = false≢true (sym failed ∙ ap test (sym same) ∙ passed)
+
+read_by : (test : Status → Bool) (status : Status) → test status ≡ true → test Missing ≡ false → test ReadFault ≡ false → test TooLong ≡ false
+    → test WriteFault ≡ false → test NoMemory ≡ false → IsRead status
+read_by test status passed held read short written room = record {
+  held = not_by test status Missing passed held;
+  read = not_by test status ReadFault passed read;
+  short = not_by test status TooLong passed short;
+  written = not_by test status WriteFault passed written;
+  room = not_by test status NoMemory passed room;
+}
+
+passes : (test : Status → Bool) (status other : Status) → status ≡ other → test other ≡ true → test status ≡ true
+passes test status other is passed = ap test is ∙ passed
+
+-- ---- the answers
+
+certificate_ends : (c : Certificate) → is_kind (status_of c) ≡ true
+certificate_ends (optimal x u cost value) = refl
+certificate_ends (cut side capacity) = refl
+certificate_ends (circuit x walk span) = refl
+
+parts_end : (flow : FlowPart) (tension : TensionPart) → is_kind (status_of_parts flow tension) ≡ true
+parts_end (NoFlow side capacity) tension = refl
+parts_end (YesFlow x) (NoTension walk span) = refl
+parts_end (YesFlow x) (YesTension u) = refl
+
+verdict_ends : (verdict : Judged) → is_judgement (status_by verdict) ≡ true
+verdict_ends Accepted = refl
+verdict_ends verdict = refl
+
+text_ends : (m : Entries) (bytes : List ℕ) (status : Status) (text : List ℕ) → ChecksText m bytes status text → is_judgement status ≡ true
+text_ends m bytes status text (inl (line, bad, is, said)) = passes is_judgement status Rejected is refl
+text_ends m bytes status text (inr (c, spelled, (verdict, judges, is, said))) = passes is_judgement status (status_by verdict) is (verdict_ends verdict)
+
+shows_end : (m : Entries) (at : Option ℕ) (status : Status) (text : List ℕ) → ShowsAt m at status text → is_showing status ≡ true
+shows_end m (Some j) status text shows = passes is_showing status Done shows.0 refl
+shows_end m None status text shows = passes is_showing status UnknownArc shows.0 refl
+
+-- the test with refusals holds where the test without them does
+still_own : (own : Status → Bool) (status : Status) → own status ≡ true → or_refused own status ≡ true
+still_own own Missing passed = refl
+still_own own ReadFault passed = refl
+still_own own TooLong passed = refl
+still_own own status passed = passed
+
+-- a later file was refused, or its text is answered
+later_ends : (own : Status → Bool) (name : List ℕ) (Next : List ℕ → Status → List ℕ → Type 0) (outside : Outside) (status : Status) (text : List ℕ)
+    → ((bytes : List ℕ) → Next bytes status text → own status ≡ true) → ReadsThen Second name Next outside status text → or_refused own status ≡ true
+later_ends own name Next outside status text step (inl (started, inl (is, line, missed, not_held))) = passes (or_refused own) status Missing is refl
+later_ends own name Next outside status text step (inl (started, inr (inl (is, line, faulted)))) = passes (or_refused own) status ReadFault is refl
+later_ends own name Next outside status text step (inl (started, inr (inr (is, line, long)))) = passes (or_refused own) status TooLong is refl
+later_ends own name Next outside status text step (inr (bytes, held, short, next)) = still_own own status (step bytes next)
+
+pub answer_ends : (question : Question) (outside : Outside) (m : Entries) (status : Status) (text : List ℕ) → AnswersModel question outside m status text → ends question status ≡ true
+answer_ends solve outside m status text certified = passes is_kind status (status_of certified.certificate) certified.kind (certificate_ends certified.certificate)
+answer_ends (check certificate) outside m status text checks =
+    later_ends is_judgement certificate (ChecksText m) outside status text (λ bytes its. text_ends m bytes status text its) checks
+answer_ends feasible outside m status text finds = passes is_kind status (status_of_parts finds.flow finds.tension) finds.kind (parts_end finds.flow finds.tension)
+answer_ends (show_curve arc) outside m status text shows = shows_end m (place_of (arc_names m) arc) status text shows
+
+-- what the answer says of the files that are read after the model
+pub later_due : (question : Question) (outside : Outside) (m : Entries) (status : Status) (text : List ℕ) → AnswersModel question outside m status text
+    → IsDueOfFiles (later_files question) outside status
+later_due (check certificate) outside m status text checks =
+    of_last Second certificate (ChecksText m) outside status text
+    (λ bytes its. read_by is_judgement status (text_ends m bytes status text its) refl refl refl refl refl) checks
+later_due question outside m status text answers =
+    of_none outside status (read_by (ends question) status (answer_ends question outside m status text answers) refl refl refl refl refl)

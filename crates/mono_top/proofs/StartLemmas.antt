@@ -1,0 +1,75 @@
+-- The files that a call starts: its first, and behind it those that the question reads.
+use Rattle.std.proofs.Common.{◌≡◌, ℕ, List, [], ◌∷◌, Option, Some, None, Ok, inl, inr, ap, sym, ◌∙◌, subst, arith, length-append}
+use Rattle.std.specs.Option.{ForSome}
+use Rattle.outside_io.specs.Seen.{Seen, Outside, since, logged}
+use Rattle.outside_io.proofs.Logs.{logged-logged}
+use Rattle.model_text.specs.Model.{Formed}
+use Rattle.model_text.specs.ModelText.{Spells}
+use Rattle.mono_top.specs.Answer.{ReadsThen}
+use Rattle.mono_top.specs.Fetch.{FetchesModel, text_of}
+use Rattle.mono_top.specs.OfModel.{OfModel}
+use Rattle.mono_top.specs.Reading.{IsModelFile}
+use Rattle.mono_top.specs.Request.{Request, about_model, Question, check, later_files}
+use Rattle.mono_top.specs.Starts.{StartsFiles, StartsLater}
+use Rattle.mono_top.specs.declared.fetch.FetchedModel.TheVariants.{Model, Refused}
+use Rattle.mono_top.specs.declared.lines.Place.TheVariants.{First}
+use Rattle.mono_top.specs.declared.reply.Reply.{Reply}
+use Rattle.mono_top.specs.declared.status.Status.{Status}
+use Rattle.mono_top.proofs.ModelFileLemmas.{next_of_model}
+
+-- the first file was started before the others
+module _ (old mid new : Seen) (first : List ℕ) (start : mid.log ≡ logged old.log (first ∷ [])) where
+  pub started_further : (names : List (List ℕ)) → new.log ≡ logged mid.log names → (since old new).started (first ∷ names)
+  started_further names further = further ∙ ap (λ log. logged log names) start ∙ logged-logged old.log (first ∷ []) names
+
+  pub started_later : (question : Question) → StartsLater question mid new → (since old new).started (first ∷ later_files question)
+  started_later (check certificate) later = started_further (certificate ∷ []) later
+  started_later question later = later ∙ start
+
+-- a file that spells a model is refused by a fault alone
+pub refused_by_fault : (model : List ℕ) (outside : Outside) (status : Status) (text : List ℕ)
+    → ReadsThen First model (OfModel (λ m status text. ⊥)) outside status text → ForSome outside.holds (λ files. IsModelFile files model → outside.faulted)
+refused_by_fault model outside status text (inl (started, inl (is, line, missed, not_held))) files told file =
+    let none = not_held files told in let held = file.1 in absurd cc
+refused_by_fault model outside status text (inl (started, inr (inl (is, line, faulted)))) files told file = faulted
+refused_by_fault model outside status text (inl (started, inr (inr (is, line, long)))) files told file =
+    let past = long files told in absurd (grind (arith, length-append {A = ℕ}, past, file))
+refused_by_fault model outside status text (inr (bytes, at_hand, short, next)) files told file =
+    let same : bytes ≡ file.0 = let first = at_hand files told in let held = file.1 in cc in
+    absurd (next_of_model (λ m status text. ⊥) bytes status text file.3.0 next (subst (λ (b : List ℕ). Spells b file.3.0) (sym same) file.3.1))
+
+-- ---- the files that a call starts
+
+-- the later files were started too
+pub starts_all : (model : List ℕ) (question : Question) (outside : Outside) (starved : Type 0) (found : Formed)
+    → FetchesModel model outside (Ok (Model found)) → outside.started (model ∷ later_files question) → StartsFiles (Some (about_model model question)) outside starved
+starts_all model question outside starved found (bytes, held, short, spells) started = record {
+  in_turn = inr (started, λ files told. (bytes, held files told, short, (found.entries, spells)));
+  all = λ files told asks quiet. inl started;
+}
+
+abbrev first_of : Option Request → List ℕ → List ℕ
+first_of None other = other
+first_of (Some (about_model model question)) other = model
+
+-- the first file was refused, and no other was started
+pub starts_refused : (model : List ℕ) (question : Question) (outside : Outside) (starved : Type 0) (reply : Reply)
+    → FetchesModel model outside (Ok (Refused reply)) → outside.started (model ∷ []) → StartsFiles (Some (about_model model question)) outside starved
+starts_refused model question outside starved reply refused started = record {
+  in_turn = inl started;
+  all = λ files told asks quiet.
+      let name : asks.2.0 ≡ model = ap (λ (r : Option Request). first_of r model) (sym asks.2.1) in
+      let file = subst (λ (n : List ℕ). IsModelFile files n) name (asks.2.2.0, asks.2.2.1, asks.2.2.2, (asks.1, asks.2.2.3)) in
+      absurd (quiet (refused_by_fault model outside reply.status (text_of reply.text) refused files told file));
+}
+
+-- no file was started
+pub starts_none : (outside : Outside) (starved : Type 0) → outside.started [] → StartsFiles None outside starved
+starts_none outside starved started = record { in_turn = started; all = λ files told asks quiet. let is = asks.2.1 in absurd cc }
+
+-- the same with another word for a call that starved
+pub starved_by : (request : Option Request) (outside : Outside) (starved other : Type 0) → (starved → other) → StartsFiles request outside starved → StartsFiles request outside other
+starved_by request outside starved other step starts = record {
+  in_turn = starts.in_turn;
+  all = λ files told asks quiet. elim (starts.all files told asks quiet) [ inl started ↦ inl started | inr is ↦ inr (step is) ];
+}

@@ -1,0 +1,31 @@
+-- Which files a call starts, and in which order: the model's alone, or with it those that the question reads after it.
+use Rattle.std.specs.Prelude.{◌≡◌, ◌⊎◌, [], ◌∷◌, Option, Some, None}
+use Rattle.std.specs.Option.{ForSome}
+use Rattle.theory.specs.Grounded.{Entries}
+use Rattle.outside_io.specs.Files.{Files}
+use Rattle.outside_io.specs.Seen.{Seen, Outside, logged}
+use Rattle.mono_top.specs.Causes.{Asks}
+use Rattle.mono_top.specs.Reading.{IsModelFile}
+use Rattle.mono_top.specs.Request.{Request, about_model, Question, check, later_files, files_of}
+
+-- the later files are started only where the first one spells a model
+abbrev pub StartsInTurn : Option Request → Outside → Type 0
+StartsInTurn None outside = outside.started []
+StartsInTurn (Some (about_model model question)) outside =
+    outside.started (model ∷ [])
+    ⊎ outside.started (model ∷ later_files question) × ForSome outside.holds (λ files. IsModelFile files model)
+
+-- the files that a question reads after the model were started
+abbrev pub StartsLater : Question → Seen → Seen → Type 0
+StartsLater (check certificate) old new = new.log ≡ logged old.log (certificate ∷ [])
+StartsLater question old new = new.log ≡ old.log
+
+-- a question is asked about a file that spells a model
+abbrev pub AsksOfModel : Files → Option Request → Type 0
+AsksOfModel files request = (question : Question) × (m : Entries) × Asks files question m request
+
+-- Exactly these files were started. Where the first of them spells a model, all of them were, but for a fault of the
+-- source or where the call starved.
+pub record StartsFiles (request : Option Request) (outside : Outside) (starved : Type 0) : Type 0 where
+  pub in_turn : StartsInTurn request outside
+  pub all : ForSome outside.holds (λ files. AsksOfModel files request → ¬ outside.faulted → outside.started (files_of request) ⊎ starved)

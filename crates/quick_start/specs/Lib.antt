@@ -1,0 +1,4 @@
+-- What a draw leaves in the room:
+pub mod Drawn
+-- What it costs:
+pub mod Spent

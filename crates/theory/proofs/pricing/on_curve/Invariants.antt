@@ -1,7 +1,0 @@
-use Rattle.std.proofs.Common.{ℕ, ◌<◌}
-use Rattle.theory.specs.OnCurve.{FitsPiece}
-use Rattle.theory.specs.PieceAt.{piece_at}
-use Rattle.theory.proofs.pricing.on_curve.Given as goal
-
-abbrev pub invariant-loop-k : goal.invariant-loop-k
-invariant-loop-k l = (j : ℕ) → j < l.k → FitsPiece 1 l.x l.v (piece_at l.items j)
