@@ -15,8 +15,9 @@ use Rattle.net_incidence.specs.Graph.{Graph, bare}
 use Rattle.painted_search.specs.Room.{Room}
 use Rattle.painted_search.specs.Writes.{with_flow, with_scratch}
 use Rattle.theory.proofs.Counting.{total_below-same, total_below-change}
+use Rattle.kilter_solver.specs.Ranges.{shift_most, excess_most, far_most, word_most}
 use Rattle.kilter_solver.specs.Excess.{excess, AreExcesses, surpluses}
-use Rattle.kilter_solver.specs.Clamping.{word_most, IsClosest, IsClosestFlow, shift_most, shifts, IsClampedBelow, IsClampable, IsShifted, IsClampedOne}
+use Rattle.kilter_solver.specs.Clamping.{IsClosest, IsClosestFlow, shifts, IsClampedBelow, IsClampable, IsShifted, IsClampedOne}
 use Rattle.kilter_solver.proofs.Pushing.{divergence-changed}
 
 -- ---- between the ends of a range
@@ -108,7 +109,7 @@ shifted-by g j from to x a b v p q w there nodes arcs from_is to_is p_is q_is w_
     ∙ ap (λ (z : ℤ). with_scratch q (head (bare g) j) (excess q (head (bare g) j) +ℤ z)) b_is)
 
 pub word-within : (w r : Room) (i k : ℕ) (z : ℤ) → i < w.nodes → r ≡ with_scratch w i (excess w i +ℤ z) → IsWithin shift_most z
-    → IsWithin (2 ^ 61 + 2 ^ 60) (excess w k) → IsWithin word_most (excess r k)
+    → IsWithin (far_most + excess_most) (excess w k) → IsWithin word_most (excess r k)
 word-within w r i k z l is small old =
     let e = excess-added w r i k z l is in
     let part = counted-bound (i == k) z small in
@@ -254,7 +255,7 @@ clamped-more g lists v w r n before there one =
       };
       excesses = excesses-shifted g n one.shift w r there shift before.excesses;
       small = λ i l. (
-          let s = small-shifted g n one.shift w r (2 ^ 60 + n * shift_most) there shift one.small before.small i l in
+          let s = small-shifted g n one.shift w r (excess_most + n * shift_most) there shift one.small before.small i l in
           let low = s.0 in
           let high = s.1 in
           (omega (arith, ints), omega (arith, ints)));

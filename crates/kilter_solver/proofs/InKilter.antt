@@ -30,10 +30,11 @@ use Rattle.painted_search.specs.Fits.{Fits}
 use Rattle.net_incidence.specs.WithoutBases.{without_bases}
 use Rattle.net_incidence.proofs.WithoutBases.{without_bases-items}
 use Rattle.theory.proofs.Counting.{total_below-order, total_below-zero, total_below-most}
+use Rattle.kilter_solver.specs.Ranges.{shift_most, ungrounded_most}
 use Rattle.kilter_solver.specs.BundleFacts.{greatest}
 use Rattle.kilter_solver.specs.Excess.{excess, surpluses}
 use Rattle.kilter_solver.specs.Routing.{IsBalancing, IsSafe, Routes, fall_most}
-use Rattle.kilter_solver.specs.Clamping.{HasPairNear, shift_most, IsLoose, IsClampedBelow, IsBegun, IsGroundedBelow, AreNear}
+use Rattle.kilter_solver.specs.Clamping.{HasPairNear, IsLoose, IsClampedBelow, IsBegun, IsGroundedBelow, AreNear}
 
 module _ (g : Graph) (lists : List (List Ext)) (are : (j : ℕ) → IsCurveList (list_at lists j)) (within : (j : ℕ) → AreWithin number_most (list_at lists j))
     (u : List ℤ) (potential : IsFeasiblePotential 1 (without_bases g lists) u) where
@@ -208,7 +209,7 @@ module _ (g : Graph) (lists : List (List Ext)) (are : (j : ℕ) → IsCurveList 
       routed_low : (i : ℕ) → neg_ℤ (pos (3 * (count_most * number_most))) ≤ℤ «at» r.potentials i
       routed_low i = routed_low-for i (routes.near i).far
 
-      pub routed-small : (i : ℕ) → IsWithin (2 ^ 60) («at» r.potentials i)
+      pub routed-small : (i : ℕ) → IsWithin ungrounded_most («at» r.potentials i)
       routed-small i = let low = routed_low i in let high = routed_high i in (omega (arith, ints), omega (arith, ints))
 
       routed_flow : (j : ℕ) → IsWithin flow_most («at» r.flows j)

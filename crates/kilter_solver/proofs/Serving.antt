@@ -12,6 +12,7 @@ use Rattle.net_incidence.specs.Graph.{Graph, bare}
 use Rattle.painted_search.specs.Room.{Room, count_most}
 use Rattle.painted_search.specs.Writes.{with_scratch}
 use Rattle.theory.proofs.Counting.{total_below-same, total_below-change}
+use Rattle.kilter_solver.specs.Ranges.{reach_most}
 use Rattle.kilter_solver.specs.Excess.{excess, surpluses}
 use Rattle.theory.specs.Sums.{positive_part}
 use Rattle.kilter_solver.specs.Ready.{AreOnCurves, Ready}
@@ -322,7 +323,7 @@ ready-on_way g lists v w safe routes balancing few = record {
   where
     low_for : (i : ℕ) → («at» w.potentials i ≡ «at» v.potentials i)
         ⊎ ((t : ℕ) × (t < g.nodes) × (excess v t <ℤ pos 0) × («at» v.potentials t ≤ℤ («at» w.potentials i +ℤ pos (fall_most g))))
-        → neg_ℤ (pos (2 ^ 59)) ≤ℤ «at» w.potentials i
+        → neg_ℤ (pos reach_most) ≤ℤ «at» w.potentials i
     low_for i (inl same) = let m = safe.potentials i in let low = m.0 in omega (arith, ints)
     low_for i (inr (t, l, h, near)) = let m = safe.potentials t in let low = m.0 in omega (arith, ints)
 

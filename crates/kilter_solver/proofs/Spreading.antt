@@ -22,9 +22,10 @@ use Rattle.painted_search.specs.Reaching.{begun}
 use Rattle.painted_search.specs.Path.{label_at}
 use Rattle.net_incidence.proofs.Graphs.{begin-in_graph}
 use Rattle.net_incidence.proofs.Degrees.{incident-stands}
+use Rattle.kilter_solver.specs.Ranges.{key_most}
 use Rattle.kilter_solver.specs.Along.{rise, directed, IsPairAlong}
 use Rattle.kilter_solver.specs.Ready.{AreOnCurves, IsReady, Ready}
-use Rattle.kilter_solver.specs.Spread.{key, level, is_label, is_near, IsTried, WayTo, Spread, IsSameState, IsNearest, key_most}
+use Rattle.kilter_solver.specs.Spread.{key, level, is_label, is_near, IsTried, WayTo, Spread, IsSameState, IsNearest}
 use Rattle.theory.proofs.Marks.{holds-set_same, holds-set_other}
 use Rattle.kilter_solver.proofs.Marking.{marked_total-set, count-some, count-most}
 

@@ -9,8 +9,8 @@ use Rattle.theory.specs.Network.{«at», tail, head, list_at}
 use Rattle.theory.specs.Conserved.{tension}
 use Rattle.net_incidence.specs.Graph.{Graph, bare}
 use Rattle.painted_search.specs.Room.{Room}
+use Rattle.kilter_solver.specs.Ranges.{shift_most, reach_most, excess_most, far_most}
 use Rattle.kilter_solver.specs.Excess.{excess, AreExcesses, surpluses}
-use Rattle.kilter_solver.specs.Ready.{reach_most}
 
 -- some number is between two ends, no further from x than this
 pub record HasNear (most : ℕ) (low high : Ext) (x : ℤ) : Type 0 where
@@ -36,10 +36,6 @@ pub record IsClosestFlow (items : List Ext) (x v z : ℤ) : Type 0 where
   pub pair : IsOnCurve 1 items z v
   pub closest : (most : ℕ) (y : ℤ) → IsOnCurve 1 items y v → IsWithin most (y -ℤ x) → IsWithin most (z -ℤ x)
 
--- the furthest that a flow moves
-abbrev pub shift_most : ℕ
-shift_most = 2 ^ 40
-
 -- ---- a room to be clamped
 
 pub record IsLoose (g : Graph) (lists : List (List Ext)) (w : Room) : Type 0 where
@@ -47,8 +43,8 @@ pub record IsLoose (g : Graph) (lists : List (List Ext)) (w : Room) : Type 0 whe
   pub same_arcs : w.arcs ≡ length g.arcs
   pub one_list_each : length lists ≡ length g.arcs
   pub excesses : AreExcesses (bare g) («at» w.flows) (excess w)
-  pub small : (i : ℕ) → i < g.nodes → IsWithin (2 ^ 60) (excess w i)
-  pub flows : (j : ℕ) → IsWithin (2 ^ 61) («at» w.flows j)
+  pub small : (i : ℕ) → i < g.nodes → IsWithin excess_most (excess w i)
+  pub flows : (j : ℕ) → IsWithin far_most («at» w.flows j)
   pub potentials : (i : ℕ) → IsWithin reach_most («at» w.potentials i)
   pub near : (j : ℕ) → j < length g.arcs → HasPairNear shift_most (list_at lists j) («at» w.flows j) (tension (bare g) («at» w.potentials) j)
 
@@ -66,23 +62,19 @@ pub record IsSameButBalance (v w : Room) : Type 0 where
 pub record IsClampedBelow (n : ℕ) (g : Graph) (lists : List (List Ext)) (v w : Room) : Type 0 where
   pub same : IsSameButBalance v w
   pub excesses : AreExcesses (bare g) («at» w.flows) (excess w)
-  pub small : (i : ℕ) → i < g.nodes → IsWithin (2 ^ 60 + n * shift_most) (excess w i)
+  pub small : (i : ℕ) → i < g.nodes → IsWithin (excess_most + n * shift_most) (excess w i)
   pub closest : (j : ℕ) → j < n → IsClosestFlow (list_at lists j) («at» v.flows j) (tension (bare g) («at» v.potentials) j) («at» w.flows j)
   pub stays : (j : ℕ) → n ≤ j → «at» w.flows j ≡ «at» v.flows j
   pub surplus : surpluses g.nodes (excess w) ≤ surpluses g.nodes (excess v) + shifts n v.flows w.flows
 
 -- ---- one arc
 
--- the greatest magnitude of an excess on the way
-abbrev pub word_most : ℕ
-word_most = 2 ^ 62
-
 pub record IsClampable (g : Graph) (lists : List (List Ext)) (w : Room) (j : ℕ) : Type 0 where
   pub same_nodes : w.nodes ≡ g.nodes
   pub same_arcs : w.arcs ≡ length g.arcs
   pub one_list_each : length lists ≡ length g.arcs
-  pub small : (i : ℕ) → i < g.nodes → IsWithin (2 ^ 61 + 2 ^ 60) (excess w i)
-  pub flow : IsWithin (2 ^ 61) («at» w.flows j)
+  pub small : (i : ℕ) → i < g.nodes → IsWithin (far_most + excess_most) (excess w i)
+  pub flow : IsWithin far_most («at» w.flows j)
   pub potentials : (i : ℕ) → IsWithin reach_most («at» w.potentials i)
   pub near : HasPairNear shift_most (list_at lists j) («at» w.flows j) (tension (bare g) («at» w.potentials) j)
 

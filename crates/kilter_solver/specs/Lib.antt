@@ -1,3 +1,5 @@
+-- How large numbers become:
+pub mod Ranges
 -- Along steps, at nodes:
 pub mod Along
 pub mod Excess

@@ -7,13 +7,10 @@ use Rattle.theory.specs.Network.{«at», list_at}
 use Rattle.theory.specs.Conserved.{tension}
 use Rattle.net_incidence.specs.Graph.{Graph, bare}
 use Rattle.painted_search.specs.Room.{Room}
+use Rattle.kilter_solver.specs.Ranges.{reach_most}
 
 pub record AreOnCurves (g : Graph) (lists : List (List Ext)) (x u : List ℤ) : Type 0 where
   pub pairs : (j : ℕ) → j < length g.arcs → IsOnCurve 1 (list_at lists j) («at» x j) (tension (bare g) («at» u) j)
-
--- the greatest magnitude of a potential on the way
-abbrev pub reach_most : ℕ
-reach_most = 2 ^ 59
 
 pub record IsReady (g : Graph) (lists : List (List Ext)) (nodes arcs : ℕ) (x u : List ℤ) : Type 0 where
   pub same_nodes : nodes ≡ g.nodes

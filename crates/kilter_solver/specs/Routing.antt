@@ -12,6 +12,7 @@ use Rattle.theory.specs.Circuit.{begin_of, end_of}
 use Rattle.net_incidence.specs.Graph.{Graph, bare}
 use Rattle.painted_search.specs.Room.{Room}
 use Rattle.painted_search.specs.Path.{label_at}
+use Rattle.kilter_solver.specs.Ranges.{begin_most, far_most}
 use Rattle.kilter_solver.specs.Along.{rise, IsPairAlong, moved}
 use Rattle.kilter_solver.specs.Excess.{excess, AreExcesses, surpluses}
 use Rattle.kilter_solver.specs.Ready.{AreOnCurves}
@@ -136,6 +137,6 @@ pub record Routes (g : Graph) (v w : Room) : Type 0 where
 
 -- where routes begin: flows, potentials and surpluses that leave room
 pub record IsSafe (g : Graph) (w : Room) : Type 0 where
-  pub flows : (j : ℕ) → IsWithin (2 ^ 61) («at» w.flows j)
-  pub potentials : (i : ℕ) → IsWithin (2 ^ 58) («at» w.potentials i)
-  pub surplus : surpluses g.nodes (excess w) ≤ 2 ^ 61
+  pub flows : (j : ℕ) → IsWithin far_most («at» w.flows j)
+  pub potentials : (i : ℕ) → IsWithin begin_most («at» w.potentials i)
+  pub surplus : surpluses g.nodes (excess w) ≤ far_most

@@ -133,7 +133,3 @@ pub record IsStuck (g : Graph) (lists : List (List Ext)) (source : ℕ) (w : Roo
 abbrev pub IsOutcome : Graph → List (List Ext) → ℕ → Room → Option NodeId → Type 0
 IsOutcome g lists source w None = IsStuck g lists source w
 IsOutcome g lists source w (Some node) = IsFound g lists source w node.0
-
--- the greatest magnitude of a key
-abbrev pub key_most : ℕ
-key_most = 2 ^ 61

@@ -10,6 +10,7 @@ ghost use Rattle.theory.specs.ReadingBound.{unscaled_unit};
 ghost use Rattle.painted_search.specs.Fits.{Fits};
 ghost use Rattle.painted_search.specs.Writes.{with_potential};
 ghost use Rattle.net_incidence.specs.WithoutBases.{without_bases, IsPassable};
+ghost use Rattle.kilter_solver.specs.Ranges.{ungrounded_most};
 ghost use Rattle.kilter_solver.specs.Clamping.{IsBegun, IsGroundedBelow, AreNear, IsCleared};
 
 use crate::bundle::Plain;
@@ -87,7 +88,7 @@ fn clear_flows(work: &mut Work)
 
 /// Takes the potential of node 0 away from all.
 fn ground(work: &mut Work)
-    requires { (i : ℕ) → IsWithin (2 ^ 60) («at» work.old.potentials i) }
+    requires { (i : ℕ) → IsWithin ungrounded_most («at» work.old.potentials i) }
     ensures { IsGroundedBelow work.old.nodes («at» work.old.potentials 0) work.old work.new }
 {
     let base = work.potential(NodeId(0));
@@ -98,8 +99,8 @@ fn ground(work: &mut Work)
 
 fn lower_by(work: &mut Work, node: NodeId, base: i64)
     requires there { node.0 < work.old.nodes }
-    requires potential { IsWithin (2 ^ 60) («at» work.old.potentials node.0) }
-    requires base { IsWithin (2 ^ 60) base }
+    requires potential { IsWithin ungrounded_most («at» work.old.potentials node.0) }
+    requires base { IsWithin ungrounded_most base }
     ensures { work.new ≡ with_potential work.old node.0 («at» work.old.potentials node.0 -ℤ base) }
 {
     let potential = work.potential(node);

@@ -6,8 +6,9 @@ ghost use Rattle.theory.specs.Conserved.{tension};
 ghost use Rattle.net_incidence.specs.Graph.{bare};
 ghost use Rattle.theory.specs.Network.{list_at};
 ghost use Rattle.painted_search.specs.Writes.{with_scratch};
+ghost use Rattle.kilter_solver.specs.Ranges.{shift_most, word_most};
 ghost use Rattle.kilter_solver.specs.Excess.{excess};
-ghost use Rattle.kilter_solver.specs.Clamping.{HasNear, IsClosest, shift_most, IsLoose, IsClampedBelow, IsClampable, IsClampedOne, IsClosestFlow, IsShifted, word_most};
+ghost use Rattle.kilter_solver.specs.Clamping.{HasNear, IsClosest, IsLoose, IsClampedBelow, IsClampable, IsClampedOne, IsClosestFlow, IsShifted};
 
 use crate::bundle::Bundle;
 use crate::spread::Routing;

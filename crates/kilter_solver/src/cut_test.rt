@@ -6,6 +6,7 @@ ghost use Rattle.theory.specs.Limits.{IsWithin};
 ghost use Rattle.theory.specs.Cut.{IsNegativeCut, cut_end};
 ghost use Rattle.net_incidence.specs.PartOf.{part_of, crossing_end};
 ghost use Rattle.net_incidence.specs.WithoutBases.{without_bases, IsPassable};
+ghost use Rattle.kilter_solver.specs.Ranges.{end_most};
 
 use mono_curve::{Monotone, Steps};
 use net_incidence::Net;
@@ -49,7 +50,7 @@ fn part_of_arc<C: Monotone, L: Ledger>(
     requires there { arc.0 < length net.now.arcs }
     requires one_mark_each { length side.now ≡ net.now.nodes }
     ensures value { result ≡ part_of (cut_end (without_bases net.now (map C.items curves.now)) side.now arc.0) }
-    ensures within { IfSome result (IsWithin (2 ^ 63)) }
+    ensures within { IfSome result (IsWithin end_most) }
     ensures no_fewer { steps.old ≤ steps.new }
     ensures count { steps.new ≤ steps.old + 1 }
 {
@@ -66,7 +67,7 @@ fn crossing_part<C: Monotone, L: Ledger>(
     steps: &mut Steps<L>,
 ) -> Option<i128>
     ensures value { result ≡ part_of (crossing_end (C.items curve.now) at_tail at_head) }
-    ensures within { IfSome result (IsWithin (2 ^ 63)) }
+    ensures within { IfSome result (IsWithin end_most) }
     ensures no_fewer { steps.old ≤ steps.new }
     ensures count { steps.new ≤ steps.old + C.weight curve.now }
 {
@@ -79,7 +80,7 @@ fn crossing_part<C: Monotone, L: Ledger>(
 
 fn upper_part(end: Ext) -> Option<i128>
     ensures value { result ≡ part_of end }
-    ensures within { IfSome result (IsWithin (2 ^ 63)) }
+    ensures within { IfSome result (IsWithin end_most) }
 {
     match end {
         Ext::At(a) => Some(i128::from(a)),
@@ -89,7 +90,7 @@ fn upper_part(end: Ext) -> Option<i128>
 
 fn lower_part(end: Ext) -> Option<i128>
     ensures value { result ≡ part_of (negated end) }
-    ensures within { IfSome result (IsWithin (2 ^ 63)) }
+    ensures within { IfSome result (IsWithin end_most) }
 {
     match end {
         Ext::At(a) => Some(-i128::from(a)),

@@ -6,10 +6,11 @@ ghost use Rattle.theory.specs.Conserved.{IsConserved};
 ghost use Rattle.theory.specs.Cut.{IsNegativeCut, holds};
 ghost use Rattle.painted_search.specs.Writes.{with_flow, with_potential, with_scratch};
 ghost use Rattle.net_incidence.specs.WithoutBases.{without_bases};
+ghost use Rattle.kilter_solver.specs.Ranges.{reach_most, key_most};
 ghost use Rattle.kilter_solver.specs.Along.{moved};
 ghost use Rattle.kilter_solver.specs.Excess.{excess, surpluses};
-ghost use Rattle.kilter_solver.specs.Ready.{Ready, AreOnCurves, reach_most};
-ghost use Rattle.kilter_solver.specs.Spread.{key, key_most, is_near, IsFound, IsSameState};
+ghost use Rattle.kilter_solver.specs.Ready.{Ready, AreOnCurves};
+ghost use Rattle.kilter_solver.specs.Spread.{key, is_near, IsFound, IsSameState};
 ghost use Rattle.kilter_solver.specs.Routing.{fallen, fallen_at, IsFallenBelow, IsRoute, IsPushed, IsBalancing, IsSent, Routes, IsSafe, flow_reach};
 
 use crate::bundle::Bundle;

@@ -7,11 +7,12 @@ ghost use Rattle.theory.specs.Circuit.{begin_of, end_of};
 ghost use Rattle.theory.specs.Cut.{holds};
 ghost use Rattle.net_incidence.specs.Graph.{bare};
 ghost use Rattle.net_incidence.specs.Incidence.{incident_steps};
+ghost use Rattle.kilter_solver.specs.Ranges.{key_most};
 ghost use Rattle.kilter_solver.specs.Along.{IsPrice, price_up, price_down};
 ghost use Rattle.theory.specs.Network.{list_at};
 ghost use Rattle.kilter_solver.specs.Excess.{excess};
 ghost use Rattle.kilter_solver.specs.Ready.{Ready};
-ghost use Rattle.kilter_solver.specs.Spread.{key, level, key_most, Spread, IsTried, IsLater, IsSameState, IsImproved, IsBestBelow, IsNearestOf, IsOutcome};
+ghost use Rattle.kilter_solver.specs.Spread.{key, level, Spread, IsTried, IsLater, IsSameState, IsImproved, IsBestBelow, IsNearestOf, IsOutcome};
 
 use crate::bundle::Bundle;
 use crate::words::{excess, is_met, key, set_key};

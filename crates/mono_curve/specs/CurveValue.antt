@@ -1,11 +1,7 @@
 -- What a curve is, seen from outside: its list and base, and that they are those of a curve within the limits.
-use Rattle.std.specs.Prelude.{ℕ, ◌+◌, ◌≤◌, length}
+use Rattle.std.specs.Prelude.{◌≤◌, length}
 use Rattle.theory.specs.CurveList.{IsCurveList, Listing}
-use Rattle.theory.specs.Limits.{list_most, AreWithin, number_most, base_most, IsWithin}
-
--- the most items of a curve: those of a model's list, and one more at either end
-abbrev pub items_most : ℕ
-items_most = list_most + 2
+use Rattle.theory.specs.Limits.{items_most, AreWithin, number_most, base_most, IsWithin}
 
 pub record IsValidCurve (c : Listing) : Type 0 where
   pub is_list : IsCurveList c.items

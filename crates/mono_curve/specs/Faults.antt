@@ -5,10 +5,10 @@ use Rattle.theory.specs.declared.ext.Ext.TheVariants.{MinusInf, At, PlusInf}
 use Rattle.theory.specs.First.{IsFirstFailing}
 use Rattle.theory.specs.Ends.{whole, IsBelow}
 use Rattle.theory.specs.CurveList.{item}
-use Rattle.theory.specs.Limits.{AreWithin, number_most, base_most, IsWithin}
+use Rattle.theory.specs.Limits.{items_most, AreWithin, number_most, base_most, IsWithin}
 use Rattle.mono_curve.specs.declared.fault.CurveFault.{CurveFault}
 use Rattle.mono_curve.specs.declared.fault.CurveFault.TheVariants.{Even, Long, Infinite, Magnitude, Order, NoMemory}
-use Rattle.mono_curve.specs.CurveValue.{IsValidCurve, items_most}
+use Rattle.mono_curve.specs.CurveValue.{IsValidCurve}
 
 -- what a search for the first place that fails answers
 abbrev pub IsFirstFailure : (ℕ → Type 0) → ℕ → Option ℕ → Type 0

@@ -1,7 +1,7 @@
 // A curve that keeps its list.
 ghost use Rattle.std.specs.Prelude.{◌≡◌, ◌≤◌, ◌*◌, IfOk, IfErr, length};
-ghost use Rattle.theory.specs.Limits.{base_most, IsWithin};
-ghost use Rattle.mono_curve.specs.CurveValue.{IsValidCurve, items_most};
+ghost use Rattle.theory.specs.Limits.{base_most, items_most, IsWithin};
+ghost use Rattle.mono_curve.specs.CurveValue.{IsValidCurve};
 
 use crate::fault::CurveFault;
 use crate::listed::Listed;

@@ -6,7 +6,7 @@ use thiserror::Error;
 pub enum CurveFault {
     #[error("a curve has an odd number of items")]
     Even,
-    #[error("a curve has at most 4003 items")]
+    #[error("a list of too many items")]
     Long,
     #[error("item {0} may not be infinite")]
     Infinite(usize),

@@ -14,7 +14,7 @@ mod steps;
 
 pub use curve::{Curve, to_curve};
 pub use fault::CurveFault;
-pub use limits::{ARG_MOST, BASE_MOST, FLOW_MOST, ITEMS_MOST, NUMBER_MOST};
+pub use limits::{ARG_MOST, BASE_MOST, FLOW_MOST, ITEMS_MOST, LEVELS, NUMBER_MOST};
 pub use listed::Listed;
 pub use monotone::Monotone;
 pub use pricing::{cost_at, domain_of, on_curve, span_of};

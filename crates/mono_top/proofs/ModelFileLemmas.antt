@@ -11,7 +11,7 @@ use Rattle.model_text.proofs.TextLaws.{one_model, spelled_or_bad, one_fault}
 use Rattle.outside_io.specs.Seen.{Outside}
 use Rattle.mono_top.specs.Answer.{ReadsThen, RefusesFile}
 use Rattle.mono_top.specs.Due.{IsDueOfFiles}
-use Rattle.mono_top.specs.Reading.{file_most}
+use Rattle.theory.specs.Limits.{file_most}
 use Rattle.mono_top.specs.OfModel.{OfModel}
 use Rattle.mono_top.specs.declared.lines.Place.{Place}
 use Rattle.mono_top.specs.declared.lines.Place.TheVariants.{First}

@@ -4,10 +4,11 @@
 use Rattle.std.specs.Prelude.{◌≡◌, ◌⊎◌, ℕ, ◌≤◌, List, [], ◌∷◌, length, Option, Some, None}
 use Rattle.std.specs.Option.{ForSome}
 use Rattle.theory.specs.Grounded.{Entries}
+use Rattle.theory.specs.Limits.{file_most}
 use Rattle.outside_io.specs.Files.{file_of}
 use Rattle.outside_io.specs.Seen.{Outside}
 use Rattle.mono_top.specs.Lines.{usage_line, missing_line, read_fault_line, too_long_line}
-use Rattle.mono_top.specs.Reading.{file_most, IsReadPastMost}
+use Rattle.mono_top.specs.Reading.{IsReadPastMost}
 use Rattle.mono_top.specs.Request.{Request, about_model, Question, solve, check, feasible, show_curve}
 use Rattle.mono_top.specs.OfModel.{OfModel}
 use Rattle.mono_top.specs.Checks.{ChecksText}

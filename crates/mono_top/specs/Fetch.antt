@@ -8,7 +8,7 @@ use Rattle.model_text.specs.ModelText.{Spells}
 use Rattle.outside_io.specs.Seen.{Outside}
 use Rattle.mono_top.specs.Answer.{RefusesFile, ReadsThen}
 use Rattle.mono_top.specs.OfModel.{OfModel}
-use Rattle.mono_top.specs.Reading.{file_most}
+use Rattle.theory.specs.Limits.{file_most}
 use Rattle.mono_top.specs.declared.fetch.Fetched.{Fetched}
 use Rattle.mono_top.specs.declared.fetch.Fetched.TheVariants.{Bytes, Refused}
 use Rattle.mono_top.specs.declared.fetch.FetchedModel.{FetchedModel}

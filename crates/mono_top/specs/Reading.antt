@@ -1,13 +1,10 @@
 -- The files of a request, read one after the other.
 use Rattle.std.specs.Prelude.{◌≡◌, ◌⊎◌, ℕ, ◌+◌, ◌≤◌, List, [], ◌∷◌, ◌++◌, length, Option, Some, None, ⊤}
 use Rattle.theory.specs.Grounded.{Entries}
+use Rattle.theory.specs.Limits.{file_most}
 use Rattle.outside_io.specs.Files.{Files, file_of}
 use Rattle.outside_io.specs.Whole.{IsHeld, IsTooLong}
 use Rattle.model_text.specs.ModelText.{Spells}
-
--- the most bytes of a file
-abbrev pub file_most : ℕ
-file_most = 4194304
 
 -- the file is held, and not too long
 abbrev pub IsReadable : Files → List ℕ → Type 0

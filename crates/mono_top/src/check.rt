@@ -8,7 +8,7 @@ ghost use Rattle.mono_top.specs.Replies.{RepliesWith};
 ghost use Rattle.mono_top.specs.Answer.{ReadsThen};
 ghost use Rattle.mono_top.specs.Checks.{ChecksText, ChecksCertificate, status_by};
 ghost use Rattle.mono_top.specs.declared.lines.Place.{Place as Files};
-ghost use Rattle.mono_top.specs.Reading.{file_most};
+ghost use Rattle.theory.specs.Limits.{file_most};
 
 use crate::fetch::{Fetched, fetch};
 use crate::lines::Place;

@@ -22,7 +22,7 @@ use Rattle.theory.specs.Span.{span_low, span_high, rest_tension}
 use Rattle.theory.specs.ConjugateCost.{with_finite, finite_points, or_one, listed_points}
 use Rattle.theory.specs.Views.{conjugate_of}
 use Rattle.theory.specs.Cost.{rise, cost}
-use Rattle.theory.specs.Limits.{AreWithin, number_most, base_most, IsWithin, flow_most}
+use Rattle.theory.specs.Limits.{AreWithin, items_most, number_most, base_most, IsWithin, flow_most}
 use Rattle.theory.specs.PieceAt.{piece_at}
 use Rattle.theory.proofs.Shape.{less_of}
 use Rattle.theory.proofs.Places.{first_at, last_at, sum_over-pieces}
@@ -247,7 +247,7 @@ pub rest_tension-within : (n : ℕ) (items : List Ext) → AreWithin n items →
 rest_tension-within n items within =
     clip_within n (span_low items) (span_high items) (pos 0) (span_low-within n items within) (span_high-within n items within) (nothing_within n)
 
-conjugate_value_within : (items : List Ext) (base b : ℤ) → IsCurveList items → AreWithin number_most items → length items ≤ 4003 → IsWithin base_most base → IsWithin number_most b
+conjugate_value_within : (items : List Ext) (base b : ℤ) → IsCurveList items → AreWithin number_most items → length items ≤ items_most → IsWithin base_most base → IsWithin number_most b
     → IsWithin (2 * base_most) (rest_tension items *ℤ b -ℤ cost 1 (record { items = items; base = base }) (pos 1 *ℤ b))
 conjugate_value_within items base b list within short low inside =
     let one : pos 1 *ℤ b ≡ b = omega (arith, ints) in
@@ -259,7 +259,7 @@ conjugate_value_within items base b list within short low inside =
     (rest_tension items *ℤ b -ℤ cost 1 (record { items = items; base = base }) b) (omega arith) all)
 
 -- It is a flow times a tension less a cost, each near 0 but for the base.
-pub conjugate_base-within : (items : List Ext) (base : ℤ) → IsCurveList items → AreWithin number_most items → length items ≤ 4003 → IsWithin base_most base
+pub conjugate_base-within : (items : List Ext) (base : ℤ) → IsCurveList items → AreWithin number_most items → length items ≤ items_most → IsWithin base_most base
     → IsWithin (2 * base_most) (conjugate_of (record { items = items; base = base })).base
 conjugate_base-within items base list within short low =
     let w = rest_tension items in

@@ -25,6 +25,10 @@ grounded_arcs_most = nodes_most + arcs_most
 abbrev pub list_most : ℕ
 list_most = 4001
 
+-- of a curve: those of a model's list, and one more at either end, as the conjugate may have
+abbrev pub items_most : ℕ
+items_most = list_most + 2
+
 -- the most bytes of a name, and of a file
 abbrev pub name_most : ℕ
 name_most = 64
@@ -41,6 +45,10 @@ IsWithin most z = (neg_ℤ (pos most) ≤ℤ z) × (z ≤ℤ pos most)
 -- the greatest magnitude of a point and of a slope
 abbrev pub number_most : ℕ
 number_most = 1000000
+
+-- the number of the top level: twice itself so often, 1 is above every point
+abbrev pub level_most : ℕ
+level_most = 20
 
 -- of a base
 abbrev pub base_most : ℕ

@@ -3,6 +3,7 @@ use Rattle.std.proofs.lemmas.Int.{ints}
 use Rattle.theory.specs.Limits.{IsWithin}
 use Rattle.painted_search.specs.Room.{Room}
 use Rattle.painted_search.specs.Writes.{with_flow}
+use Rattle.kilter_solver.specs.Ranges.{excess_most, far_most}
 use Rattle.kilter_solver.specs.Excess.{excess}
 use Rattle.kilter_solver.proofs.Clamps.{shifted-by, word-within}
 use Rattle.kilter_solver.proofs.spread.Routing.shift_to.Goals as goal
@@ -18,7 +19,7 @@ add_excess-requires-2-clause-excess g c =
     let from_there = c.args.self.now.net.now.good.tails c.args.arc.0 c.requires.there in
     word-within c.set_flow.new.self c.add_excess.new.work c.from.result.0 to _
     (omega (arith, c.from.ensures, c.requires.ready.same_nodes)) c.add_excess.ensures (omega (arith, ints), omega (arith, ints))
-    (subst (λ (z : ℤ). IsWithin (2 ^ 61 + 2 ^ 60) z) (sym same) (c.requires.ready.small to (omega (arith, c.to.ensures, c.args.self.now.net.now.good.heads c.args.arc.0 c.requires.there))))
+    (subst (λ (z : ℤ). IsWithin (far_most + excess_most) z) (sym same) (c.requires.ready.small to (omega (arith, c.to.ensures, c.args.self.now.net.now.good.heads c.args.arc.0 c.requires.there))))
 
 pub returns : goal.returns
 returns g c =
