@@ -7,3 +7,4 @@ pub mod Turned
 pub mod Levels
 pub mod LevelLaws
 pub mod LevelReadings
+pub mod LevelFacts

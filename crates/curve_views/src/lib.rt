@@ -4,11 +4,13 @@
 mod conjugate;
 mod dual;
 mod ends;
+mod level;
 mod reversed;
 mod zero_cost;
 
 pub use conjugate::Conjugate;
 pub use dual::dual_at;
+pub use level::Level;
 pub use reversed::Reversed;
 pub use zero_cost::ZeroCost;
 

@@ -47,7 +47,7 @@ fn slope_by(past_first: bool, past_last: bool) -> Ext
 }
 
 /// The slopes on the two sides of a flow.
-fn slopes_by(first: Ext, last: Ext, x: i64) -> (Ext, Ext)
+pub(crate) fn slopes_by(first: Ext, last: Ext, x: i64) -> (Ext, Ext)
     ensures low { result.0 ≡ slope_past (is_below first (Item.At x)) (is_below last (Item.At x)) }
     ensures high { result.1 ≡ slope_past (not (is_below (Item.At x) first)) (not (is_below (Item.At x) last)) }
 {
@@ -59,7 +59,7 @@ fn slopes_by(first: Ext, last: Ext, x: i64) -> (Ext, Ext)
 }
 
 /// The ends of the range at a tension.
-fn range_by(first: Ext, last: Ext, v: i64) -> (Ext, Ext)
+pub(crate) fn range_by(first: Ext, last: Ext, v: i64) -> (Ext, Ext)
     ensures low { result.0 ≡ (if is_below (Item.At (pos 0)) (Item.At v) then last else first) }
     ensures high { result.1 ≡ (if not (is_below (Item.At v) (Item.At (pos 0))) then last else first) }
 {
