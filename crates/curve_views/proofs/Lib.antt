@@ -3,3 +3,7 @@ pub mod ReversedReadings
 pub mod FlatReadings
 pub mod FlowOf
 pub mod TurnedList
+-- Levels:
+pub mod Staircase
+pub mod LevelWalks
+pub mod LevelEnds
