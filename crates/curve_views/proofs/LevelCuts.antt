@@ -69,7 +69,7 @@ cut_of_level k net other side good level cut =
     let n = length net.arcs in
     let count : length other.arcs ≡ n = ap length level.arcs in
     let each : (j : ℕ) → j < n → IsCovered k (cut_end net side j) (cut_end other side j) = (λ j there.
-        covered k net other side j good level (cut.counts j (rw count there)) there) in
+    covered k net other side j good level (cut.counts j (rw count there)) there) in
     let order = sum_below-order n (λ j. whole (cut_end net side j)) (λ j. pos (2 ^ k) *ℤ whole (cut_end other side j)) (λ j there. (each j there).most) in
     let scaled = sum_below-mul n (pos (2 ^ k)) (λ j. whole (cut_end other side j)) in
     let negative : sum_below n (λ j. whole (cut_end other side j)) <ℤ pos 0 = rw (← count) cut.negative in

@@ -214,7 +214,7 @@ doubled_flow k items x v list on =
     let low = one_way_of v items list in
     let high = one_way_of (v +ℤ pos 1) items list in
     let under : IsUnder (walk (is_under (At v)) level) (pos 2 *ℤ x +ℤ pos 1) =
-        rw (low.same k) (doubled_under k low.up (walk (is_under (At v)) items) x (rw (low.same (k + 1)) at coarse_ends.0)) in
+    rw (low.same k) (doubled_under k low.up (walk (is_under (At v)) items) x (rw (low.same (k + 1)) at coarse_ends.0)) in
     let over : IsOver (walk (is_under (At (v +ℤ pos 1))) level) (pos 2 *ℤ x -ℤ pos 1) =
-        rw (high.same k) (doubled_over k high.up (walk (is_under (At (v +ℤ pos 1))) items) x (rw (high.same (k + 1)) at coarse_ends.1)) in
+    rw (high.same k) (doubled_over k high.up (walk (is_under (At (v +ℤ pos 1))) items) x (rw (high.same (k + 1)) at coarse_ends.1)) in
     near_flow level v flow.0 (pos 2 *ℤ x) (walk (is_under (At v)) level) (walk (is_under (At (v +ℤ pos 1))) level) range ends.0 ends.1 under over

@@ -18,7 +18,7 @@ up-requires-clause-small g c =
 pub returns-then-not-precedes-clause-range : goal.returns-then-not-precedes-clause-range
 returns-then-not-precedes-clause-range g c =
     let items = g.C.Monotone.items c.args.self.now.curve.now in
-    let same = rw (c.domain-first.ensures.low, c.domain-first.ensures.high) at (sym c.precedes.ensures ∙ c.if-not-precedes.true) in
+    let same = rw (c.precedes.ensures, c.domain-first.ensures.low, c.domain-first.ensures.high) at c.if-not-precedes.true in
     rw (c.range_by.ensures.low, c.range_by.ensures.high, to_z-of_z c.ranges.v, c.down.ensures, c.up.ensures, c.domain-first.ensures.low, c.domain-first.ensures.high)
     (range-point_level c.args.self.now.k items c.args.v (g.met.C.Monotone.is_list c.args.self.now.curve.now) same)
 
@@ -38,7 +38,7 @@ rounded-requires-2-clause-small g c = (small g (goal.at.rounded-requires-2-claus
 pub returns-clause-range : goal.returns-clause-range
 returns-clause-range g c =
     let items = g.C.Monotone.items c.args.self.now.curve.now in
-    let order : IsBelow (first items) (last items) = rw (c.domain-first.ensures.low, c.domain-first.ensures.high) at (sym c.precedes.ensures ∙ c.if-not-precedes.false) in
+    let order : IsBelow (first items) (last items) = rw (c.precedes.ensures, c.domain-first.ensures.low, c.domain-first.ensures.high) at c.if-not-precedes.false in
     rw (c.rounded.ensures, c.rounded-2.ensures, c.domain-first.ensures.high)
     (range_of_level c.args.self.now.k items c.args.v c.range_at-low.result.0 c.range_at-low.result.1 (g.met.C.Monotone.is_list c.args.self.now.curve.now) order
     (read g (goal.at.returns-clause-range g c).After-range_at-low))

@@ -25,7 +25,7 @@ left_of-requires-2-clause-small g c =
 pub returns-then-not-precedes-clause-slopes : goal.returns-then-not-precedes-clause-slopes
 returns-then-not-precedes-clause-slopes g c =
     let items = g.C.Monotone.items c.args.self.now.curve.now in
-    let same = rw (c.domain-first.ensures.low, c.domain-first.ensures.high) at (sym c.precedes.ensures ∙ c.if-not-precedes.true) in
+    let same = rw (c.precedes.ensures, c.domain-first.ensures.low, c.domain-first.ensures.high) at c.if-not-precedes.true in
     rw (c.slopes_by.ensures.low, c.slopes_by.ensures.high, to_z-of_z c.ranges.x, c.down.ensures, c.up.ensures, c.domain-first.ensures.low, c.domain-first.ensures.high)
     (slopes-point_level c.args.self.now.k items c.args.x (g.met.C.Monotone.is_list c.args.self.now.curve.now) same)
 
