@@ -1,6 +1,6 @@
 -- A cut at a level. An end of a level's domain is finite only where the curve's is, and times the power it is at least as far out.
 -- So each term of the cut sum is at most the power times its term at the level, and the whole sum is negative with that one.
-use Rattle.std.proofs.Common.{◌≡◌, ℕ, ◌^◌, ◌<◌, ℤ, pos, ◌*ℤ◌, neg_ℤ, ◌≤ℤ◌, ◌<ℤ◌, Bool, true, false, List, ◌∷◌, [], length, refl, sym, ap, arith, pow_pos}
+use Rattle.std.proofs.Common.{◌≡◌, ℕ, ◌^◌, ◌<◌, pos, ◌*ℤ◌, neg_ℤ, ◌≤ℤ◌, ◌<ℤ◌, Bool, true, false, List, length, refl, ap, arith, pow_pos}
 use Rattle.std.specs.Prelude.{if◌then◌else◌}
 use Rattle.std.specs.Int.{int_div_euclid}
 use Rattle.std.proofs.lemmas.Int.{ints}
@@ -9,7 +9,7 @@ use Rattle.theory.specs.declared.ext.Ext.TheVariants.{MinusInf, At, PlusInf}
 use Rattle.theory.specs.Ends.{IsFinite, whole, negated}
 use Rattle.theory.specs.CurveList.{IsCurveList, first, last}
 use Rattle.theory.specs.Network.{Network, IsNetwork, curve}
-use Rattle.theory.specs.Cut.{leaves, enters, cut_end, cut_sum, IsNegativeCut}
+use Rattle.theory.specs.Cut.{leaves, enters, cut_end}
 use Rattle.theory.specs.Sums.{sum_below}
 use Rattle.theory.specs.Views.{rounded_down, rounded_up, level_items}
 use Rattle.theory.proofs.Rings.{rings, scale_strict}

@@ -1,7 +1,7 @@
 -- The ends of a level. Of its domain they are the ends of the curve's, the first rounded down and the last rounded up. Its span
 -- is that of the curve: an end of the span is the answer of a walk that asks of each point only whether it is infinite, and
 -- rounding leaves that as it was. The level of a single point is its own zero-cost list.
-use Rattle.std.proofs.Common.{◌≡◌, ℕ, ◌+◌, ◌*◌, ◌^◌, ◌%◌, ℤ, pos, ◌*ℤ◌, neg_ℤ, ◌≤ℤ◌, Bool, true, false, not, List, [], ◌∷◌, length, refl, sym, ap, ◌∙◌, arith, pow_pos}
+use Rattle.std.proofs.Common.{◌≡◌, ℕ, ◌*◌, ◌^◌, ℤ, pos, ◌*ℤ◌, neg_ℤ, Bool, true, false, not, List, [], ◌∷◌, refl, sym, ap, ◌∙◌, arith, pow_pos}
 use Rattle.std.specs.Prelude.{◌++◌, if◌then◌else◌}
 use Rattle.std.specs.Int.{int_div_euclid}
 use Rattle.std.proofs.lemmas.Int.{ints}
@@ -19,7 +19,6 @@ use Rattle.theory.proofs.Rounding.{quotient_low}
 use Rattle.theory.proofs.Shape.{Rest, ends, goes_on, Shape, single, long, shape_by_place, rest_even}
 use Rattle.theory.proofs.ZeroCost.{below_last}
 use Rattle.curve_views.specs.ZeroCostReadings.{slope_past}
-use Rattle.curve_views.specs.Levels.{IsSameSpan}
 use Rattle.curve_views.specs.LevelLaws.{LevelDomainLaw, LevelSpanLaw}
 use Rattle.curve_views.specs.LevelReadings.{walk, is_under}
 use Rattle.curve_views.proofs.FlatReadings.{slopes-zero_cost, range-zero_cost}

@@ -3,8 +3,8 @@
 -- the top, where the power is greater than every number, an end is -1, 0 or 1 at most; and from a level to the next finer
 -- one a doubled flow is at most 1 outside the range. The tension has a flow at each level, since the span is the same, and of a
 -- range that isn't empty an end is the nearest flow.
-use Rattle.std.proofs.Common.{◌≡◌, ℕ, suc, add-one, ◌+◌, ◌*◌, ◌^◌, ◌<◌, ◌≤◌, ℤ, pos, ◌+ℤ◌, ◌*ℤ◌, neg_ℤ, ◌≤ℤ◌, ◌<ℤ◌, Bool, true, false, not, List, [], ◌∷◌, refl, sym, ap, ◌∙◌, arith, pow_pos}
-use Rattle.std.specs.Prelude.{◌-ℤ◌, ◌↔◌, if◌then◌else◌}
+use Rattle.std.proofs.Common.{◌≡◌, ℕ, suc, add-one, ◌+◌, ◌*◌, ◌^◌, ◌<◌, ◌≤◌, ℤ, pos, ◌+ℤ◌, ◌*ℤ◌, neg_ℤ, ◌≤ℤ◌, Bool, true, false, not, List, [], ◌∷◌, refl, ◌∙◌, arith, pow_pos}
+use Rattle.std.specs.Prelude.{◌-ℤ◌, if◌then◌else◌}
 use Rattle.std.specs.Int.{int_div_euclid}
 use Rattle.std.proofs.lemmas.Int.{ints}
 use Rattle.theory.specs.declared.ext.Ext.{Ext}
@@ -15,7 +15,7 @@ use Rattle.theory.specs.Span.{InSpan}
 use Rattle.theory.specs.OnCurve.{IsOnCurve}
 use Rattle.theory.specs.Views.{rounded_down, rounded_up, is_same_end, level_items}
 use Rattle.theory.specs.Readings.{IsUnder, IsOver, IsRange}
-use Rattle.theory.specs.Limits.{AreWithin, IsWithin}
+use Rattle.theory.specs.Limits.{IsWithin}
 use Rattle.theory.proofs.Bounds.{negated-within}
 use Rattle.theory.proofs.Equality.{in_span}
 use Rattle.theory.proofs.Level.{level-is_list}
@@ -62,7 +62,7 @@ pub twice_high : (k : ℕ) (a : ℤ) → int_div_euclid a (pos (2 ^ k)) ≤ℤ (
 twice_high k a = rw (power_more k) (twice_high_by (2 ^ k) a (pow_pos k))
 
 -- the quotient of a number by a greater one
-quotient_small : (n m : ℕ) (a : ℤ) → n < m → IsWithin n a → IsWithin 1 (int_div_euclid a (pos m))
+pub quotient_small : (n m : ℕ) (a : ℤ) → n < m → IsWithin n a → IsWithin 1 (int_div_euclid a (pos m))
 quotient_small n m a less small =
     let low = small.0 in
     let high = small.1 in

@@ -3,10 +3,10 @@
 -- that past a slope that doesn't pass none does. So a walk over the level is one over the rounded points. There a range answers
 -- the rounded answer of the curve, and a slope is the curve's at the flow times the power of two: a point rounded down is
 -- below a whole flow exactly where the point is below that flow times the power.
-use Rattle.std.proofs.Common.{◌≡◌, ℕ, zero, suc, ◌+◌, ◌*◌, ◌^◌, ◌%◌, ◌≤◌, ℤ, pos, ◌+ℤ◌, ◌*ℤ◌, neg_ℤ, ◌≤ℤ◌, ◌<ℤ◌, Bool, true, false, not, List, [], ◌∷◌, length, refl, sym, ap, ap₂, ◌∙◌, arith, pow_pos, ◌&&◌}
-use Rattle.std.specs.Prelude.{◌++◌, if◌then◌else◌, ◌-ℤ◌}
-use Rattle.std.specs.Int.{int_div_euclid, int_min, int_max}
-use Rattle.std.proofs.lemmas.Int.{ints, clamps, by_lt_z}
+use Rattle.std.proofs.Common.{◌≡◌, ℕ, suc, ◌+◌, ◌^◌, ◌%◌, ℤ, pos, ◌+ℤ◌, ◌*ℤ◌, ◌<ℤ◌, Bool, true, false, not, List, [], ◌∷◌, length, refl, sym, ap, ap₂, ◌∙◌, arith, pow_pos, ◌&&◌}
+use Rattle.std.specs.Prelude.{◌++◌, if◌then◌else◌}
+use Rattle.std.specs.Int.{int_div_euclid}
+use Rattle.std.proofs.lemmas.Int.{ints, clamps}
 use Rattle.theory.specs.declared.ext.Ext.{Ext}
 use Rattle.theory.specs.declared.ext.Ext.TheVariants.{MinusInf, At, PlusInf}
 use Rattle.theory.specs.Ends.{is_below, IsBelow, whole}
@@ -16,7 +16,7 @@ use Rattle.theory.specs.Readings.{IsRange}
 use Rattle.theory.specs.Limits.{AreWithin, IsWithin}
 use Rattle.theory.proofs.Bounds.{item_within}
 use Rattle.theory.proofs.Level.{level-is_list}
-use Rattle.theory.proofs.Rings.{scale_mono, scale_strict, scale_cancel_strict}
+use Rattle.theory.proofs.Rings.{scale_mono, scale_cancel_strict}
 use Rattle.theory.proofs.Rounding.{quotient_low, quotient_high, up-above_down}
 use Rattle.theory.proofs.Shape.{Rest, ends, goes_on, Shape, single, long, shape_by_place, rest_even}
 use Rattle.theory.proofs.ZeroCost.{below_last}

@@ -3,15 +3,14 @@
 -- long as the thresholds are below the number that it asks for, and answers the value where it stops. That the upper answer
 -- is the lower one at the next number holds since between two whole numbers there is none. A reading has one answer only: two
 -- ranges that hold the same whole numbers, and one at least, have the same ends.
-use Rattle.std.proofs.Common.{◌≡◌, ℕ, zero, suc, ◌+◌, ◌-◌, ◌*◌, ◌/◌, ◌%◌, ◌<◌, ◌≤◌, ℤ, pos, ◌+ℤ◌, ◌≤ℤ◌, ◌<ℤ◌, Bool, true, false, not, List, [], ◌∷◌, length, refl, sym, ap, ◌∙◌, inl, inr, arith, length-append}
-use Rattle.std.specs.Prelude.{◌-ℤ◌, ◌++◌, if◌then◌else◌}
-use Rattle.std.proofs.lemmas.Bool.{cases_lt}
-use Rattle.std.proofs.lemmas.Int.{ints, by_lt_z}
+use Rattle.std.proofs.Common.{◌≡◌, ℕ, zero, suc, ◌+◌, ◌*◌, ◌/◌, ◌%◌, ◌<◌, ◌≤◌, ℤ, pos, ◌+ℤ◌, ◌≤ℤ◌, Bool, true, false, not, List, [], ◌∷◌, length, refl, sym, ap, ◌∙◌, arith, length-append}
+use Rattle.std.specs.Prelude.{◌-ℤ◌, ◌++◌}
+use Rattle.std.proofs.lemmas.Int.{ints}
 use Rattle.std.proofs.Math.ListN.{get_or-append}
 use Rattle.std.proofs.Math.Seq.{get_or-append_seam}
 use Rattle.theory.specs.declared.ext.Ext.{Ext}
 use Rattle.theory.specs.declared.ext.Ext.TheVariants.{MinusInf, At, PlusInf}
-use Rattle.theory.specs.Ends.{is_below, IsBelow}
+use Rattle.theory.specs.Ends.{is_below}
 use Rattle.theory.specs.CurveList.{IsCurveList, item, first, last}
 use Rattle.theory.specs.Views.{conjugate_items}
 use Rattle.theory.specs.Readings.{IsUnder, IsOver, IsSlopes, IsRange}

@@ -2,7 +2,7 @@
 -- from 0 than its number, and what is rounded up is the opposite of the opposite rounded down.
 use Rattle.std.specs.Prelude.{◌≡◌, ℕ, zero, suc, ◌+◌, ◌*◌, ◌/◌, ◌^◌, ◌≤◌, ℤ, pos, negsuc, Bool, true, false, List, [], ◌∷◌, length}
 use Rattle.std.specs.Int.{int_div_euclid}
-use Rattle.std.proofs.Common.{refl, arith, pow_pos}
+use Rattle.std.proofs.Common.{refl, arith}
 use Rattle.std.proofs.lemmas.Int.{ints}
 use Rattle.std.proofs.Math.Nat.{div-le_self}
 use Rattle.theory.specs.declared.ext.Ext.{Ext}

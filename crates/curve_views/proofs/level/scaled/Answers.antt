@@ -1,12 +1,10 @@
-use Rattle.std.proofs.Common.{◌≡◌, ◌*◌, ◌^◌, ◌≤◌, refl, to_z, of_z, to_z-of_z, FitsSigned, arith}
+use Rattle.std.proofs.Common.{◌≡◌, ◌*◌, ◌^◌, ◌≤◌, to_z, of_z, to_z-of_z, FitsSigned, arith}
 use Rattle.std.specs.Prelude.{pos, ◌*ℤ◌}
 use Rattle.std.specs.Int.{w128}
 use Rattle.std.proofs.lemmas.Int.{ints}
 use Rattle.std.proofs.Math.Nat.{pow-le-pow_right}
 use Rattle.theory.specs.Limits.{IsWithin}
 use Rattle.theory.proofs.Bounds.{within_product, within_fits128}
-use Rattle.curve_views.proofs.LevelWalks.{edges_flat}
-use Rattle.curve_views.proofs.Staircase.{slopes_are_walks}
 use Rattle.curve_views.proofs.level.scaled.Goals as goal
 use Rattle.curve_views.proofs.level.scaled.Goals.{After-from}
 

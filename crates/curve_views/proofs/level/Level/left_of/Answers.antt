@@ -1,11 +1,8 @@
-use Rattle.std.proofs.Common.{◌≡◌, ◌∙◌, sym, ap, subst, ℤ, true, false, to_z-of_z, FitsSigned, rules}
+use Rattle.std.proofs.Common.{◌≡◌, ◌∙◌, sym, subst, ℤ, to_z-of_z, FitsSigned, rules}
 use Rattle.std.specs.Int.{w64}
-use Rattle.theory.specs.declared.ext.Ext.{Ext}
 use Rattle.theory.specs.declared.ext.Ext.TheVariants.{At}
-use Rattle.theory.specs.Ends.{is_below, IsBelow}
-use Rattle.theory.specs.CurveList.{first, last}
-use Rattle.theory.specs.Views.{rounded_up}
-use Rattle.theory.specs.Readings.{IsSlopes}
+use Rattle.theory.specs.Ends.{is_below}
+use Rattle.theory.specs.CurveList.{last}
 use Rattle.theory.specs.Limits.{number_most}
 use Rattle.curve_views.specs.LevelReadings.{argument_below}
 use Rattle.curve_views.proofs.Staircase.{slopes_are_walks}

@@ -1,4 +1,4 @@
-use Rattle.std.proofs.Common.{◌∙◌, sym, to_z-of_z}
+use Rattle.std.proofs.Common.{to_z-of_z}
 use Rattle.theory.specs.Ends.{IsBelow}
 use Rattle.theory.specs.CurveList.{first, last}
 use Rattle.theory.specs.Limits.{number_most}

@@ -1,4 +1,4 @@
-use Rattle.std.proofs.Common.{◌≡◌, ◌∙◌, sym, to_z, of_z, to_z-of_z, FitsSigned, arith, pos, ◌+ℤ◌}
+use Rattle.std.proofs.Common.{◌≡◌, to_z, of_z, to_z-of_z, arith, pos, ◌+ℤ◌}
 use Rattle.std.specs.Int.{w64}
 use Rattle.std.proofs.lemmas.Int.{ints}
 use Rattle.theory.specs.Limits.{number_most}
