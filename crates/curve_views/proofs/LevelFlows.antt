@@ -29,7 +29,7 @@ use Rattle.mono_curve.proofs.ReadOff.{not_above_under, not_below_over}
 use Rattle.curve_views.specs.Levels.{HasFlowNear}
 use Rattle.curve_views.specs.LevelLaws.{TopLevelLaw, DoubledLaw}
 use Rattle.curve_views.specs.LevelReadings.{rounded_at, walk, is_under}
-use Rattle.curve_views.proofs.Staircase.{over_less, range_of_walk}
+use Rattle.curve_views.proofs.Staircase.{under_more, over_less, range_of_walk}
 use Rattle.curve_views.proofs.LevelWalks.{points_step, range-level}
 use Rattle.curve_views.proofs.LevelEnds.{span_of_level}
 
@@ -140,18 +140,13 @@ at_least_before MinusInf y x below over = absurd over
 at_least_before (At b) y x below over = omega (arith, ints)
 at_least_before PlusInf y x below over = let h : false ≡ true = below in cc
 
-under_greater : (e : Ext) (v w : ℤ) → v ≤ℤ w → IsUnder e v → IsUnder e w
-under_greater MinusInf v w h under = tt
-under_greater (At a) v w h under = omega (arith, ints)
-under_greater PlusInf v w h under = under
-
 near_flow_for : (items : List Ext) (v x y : ℤ) (low high : Ext) (b d : Bool) → IsRange items v low high → IsUnder low x → IsOver high x
     → IsUnder low (y +ℤ pos 1) → IsOver high (y -ℤ pos 1) → is_below (At y) low ≡ b → is_below high (At y) ≡ d → HasFlowNear 1 items y v
 near_flow_for items v x y low high true d range under_x over_x under over e f =
     let more = over_less high (y +ℤ pos 1) x (next_at_most low y x e under_x) over_x in
     record { flow = y +ℤ pos 1; pair = (range.pairs (y +ℤ pos 1)).1 (under, more); near = (omega (arith, ints), omega (arith, ints)) }
 near_flow_for items v x y low high false true range under_x over_x under over e f =
-    let less = under_greater low x (y -ℤ pos 1) (at_least_before high y x f over_x) under_x in
+    let less = under_more low x (y -ℤ pos 1) (at_least_before high y x f over_x) under_x in
     record { flow = y -ℤ pos 1; pair = (range.pairs (y -ℤ pos 1)).1 (less, over); near = (omega (arith, ints), omega (arith, ints)) }
 near_flow_for items v x y low high false false range under_x over_x under over e f =
     record { flow = y; pair = (range.pairs y).1 (not_above_under low y e, not_below_over high y f); near = (omega (arith, ints), omega (arith, ints)) }

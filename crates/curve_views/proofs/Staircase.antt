@@ -198,7 +198,7 @@ upper_is PlusInf MinusInf w h k f g = absurd k
 upper_is PlusInf (At b) w h k f g = let more = f (b +ℤ pos 1) (omega (arith, ints)) tt in absurd (omega (arith, ints))
 upper_is PlusInf PlusInf w h k f g = refl
 
-under_more : (e : Ext) (v w : ℤ) → v ≤ℤ w → IsUnder e v → IsUnder e w
+pub under_more : (e : Ext) (v w : ℤ) → v ≤ℤ w → IsUnder e v → IsUnder e w
 under_more MinusInf v w h under = tt
 under_more (At a) v w h under = omega (arith, ints)
 under_more PlusInf v w h under = under
