@@ -120,10 +120,9 @@ up_endless k (At a) = refl
 up_endless k PlusInf = refl
 
 -- a walk that sees of a point only whether it is infinite
-same_walk : (pass : Ext → Bool) (k : ℕ) → ((p : Ext) → pass (rounded_down k p) ≡ pass p) → ((p : Ext) → pass (rounded_up k p) ≡ pass p)
-    → ((a : ℤ) → pass (At a) ≡ pass (At (pos 0))) → {items : List Ext} → Shape items
+same_walk : (pass : Ext → Bool) (k : ℕ) → ((p : Ext) → pass (rounded_down k p) ≡ pass p) → ((p : Ext) → pass (rounded_up k p) ≡ pass p) → {items : List Ext} → Shape items
     → walk pass (MinusInf ∷ (level_items k items ++ PlusInf ∷ [])) ≡ walk pass (MinusInf ∷ (items ++ PlusInf ∷ []))
-same_walk pass k down_test up_test alike (single {p = p}) =
+same_walk pass k down_test up_test (single {p = p}) =
     edges_flat pass MinusInf (rounded_down k (At p) ∷ At (pos 0) ∷ rounded_up k (At p) ∷ []) refl
     ∙ rw (down_test (At p), up_test (At p)) (by (pass (At p)) refl)
   where
@@ -131,7 +130,7 @@ same_walk pass k down_test up_test alike (single {p = p}) =
         → (if pass (At p) then (if pass (At p) then PlusInf else At (pos 0)) else MinusInf) ≡ (if pass (At p) then PlusInf else MinusInf)
     by true h = rw h refl
     by false h = rw h refl
-same_walk pass k down_test up_test alike (long {l = l} {m = m} {s = s} {rest = rest} below more) =
+same_walk pass k down_test up_test (long {l = l} {m = m} {s = s} {rest = rest} below more) =
     edges_of_shape pass pass k (last (m ∷ rest)) (λ e. Unit {0}) (λ p any less. down_test p) (up_test (last (m ∷ rest)))
     (long {l = l} {m = m} {s = s} {rest = rest} below more) refl (below_last l below more) (λ j. tt)
 
@@ -140,8 +139,8 @@ span_of_level k items list =
     let shape = shape_by_place items list in
     let level = shape_by_place (level_items k items) (level-is_list k items list) in
     record {
-      low = low_of_shape level ∙ same_walk is_endless k (down_endless k) (up_endless k) (λ a. refl) shape ∙ sym (low_of_shape shape);
-      high = high_of_shape level ∙ same_walk (is_under PlusInf) k (down_before k) (up_before k) (λ a. refl) shape ∙ sym (high_of_shape shape);
+      low = low_of_shape level ∙ same_walk is_endless k (down_endless k) (up_endless k) shape ∙ sym (low_of_shape shape);
+      high = high_of_shape level ∙ same_walk (is_under PlusInf) k (down_before k) (up_before k) shape ∙ sym (high_of_shape shape);
     }
 
 -- ---- a single point

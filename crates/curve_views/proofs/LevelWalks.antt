@@ -12,13 +12,15 @@ use Rattle.theory.specs.declared.ext.Ext.TheVariants.{MinusInf, At, PlusInf}
 use Rattle.theory.specs.Ends.{is_below, IsBelow, whole}
 use Rattle.theory.specs.CurveList.{IsCurveList, item, first, last}
 use Rattle.theory.specs.Views.{rounded_down, rounded_up, rounded_points, is_same_end, without_flat, level_items}
+use Rattle.theory.specs.Readings.{IsRange}
 use Rattle.theory.specs.Limits.{AreWithin, IsWithin}
 use Rattle.theory.proofs.Bounds.{item_within}
-use Rattle.theory.proofs.Ends.{below_trans}
+use Rattle.theory.proofs.Level.{level-is_list}
 use Rattle.theory.proofs.Rings.{scale_mono, scale_strict, scale_cancel_strict}
 use Rattle.theory.proofs.Rounding.{quotient_low, quotient_high, up-above_down}
 use Rattle.theory.proofs.Shape.{Rest, ends, goes_on, Shape, single, long, shape_by_place, rest_even}
 use Rattle.theory.proofs.ZeroCost.{below_last}
+use Rattle.curve_views.proofs.Staircase.{range_of_walk, range_is_walks}
 use Rattle.curve_views.specs.LevelReadings.{rounded_at, walk, is_under, slope_left, limited, argument_below}
 
 -- ---- the test of two ends
@@ -307,3 +309,13 @@ slope-level_past k items x list order past =
     (λ p any below. through (rounded_down k p) (rounded_up k (last items)) x (up-above_down k p (last items) below) past) past
     shape refl order (λ j. tt)
     ∙ all_of_shape shape
+
+-- ---- the range
+
+-- the ends of the range at the level, by those of the curve
+pub range_of_level : (k : ℕ) (items : List Ext) (v : ℤ) (low high : Ext) → IsCurveList items → IsBelow (first items) (last items) → IsRange items v low high
+    → IsRange (level_items k items) v (rounded_at k (last items) low) (rounded_at k (last items) high)
+range_of_level k items v low high list order range =
+    let same = range_is_walks items v low high list range in
+    rw (same.low, same.high, ← range-level k v items list order, ← range-level k (v +ℤ pos 1) items list order)
+    (range_of_walk (level_items k items) (level-is_list k items list) v)

@@ -7,3 +7,5 @@ pub mod TurnedList
 pub mod Staircase
 pub mod LevelWalks
 pub mod LevelEnds
+pub mod LevelFlows
+pub mod LevelCuts

@@ -1,8 +1,9 @@
 // Views of curves worked by hand: their lists and bases, the conjugate cost, and readings.
-ghost use Rattle.std.specs.Prelude.{◌≡◌, ◌<◌};
+ghost use Rattle.std.specs.Prelude.{◌≡◌, ◌<◌, ◌≤◌};
 ghost use Rattle.theory.specs.Limits.{arg_most, IsWithin};
+ghost use Rattle.curve_views.specs.Levels.{coarsest};
 
-use crate::{Conjugate, Reversed, ZeroCost, dual_at};
+use crate::{Conjugate, Level, Reversed, ZeroCost, dual_at};
 use mono_curve::{Curve, Listed, Monotone, Steps, span_of};
 use std::alloc::{AllocError, Global};
 use std::marker::Brand;
@@ -198,4 +199,86 @@ fn zero_cost_readings(rt: HostRuntime) -> Result<(), Fail> {
     };
     assert_eq!(rt; read, want);
     Ok(())
+}
+
+/// The readings of a curve at level `k` at a flow and a tension.
+fn compare_level(
+    rt: &impl Abort,
+    alloc: Global,
+    items: &[Ext],
+    k: u32,
+    at: (i64, i64),
+    want: Readings,
+) -> Result<(), Fail>
+    requires few { k ≤ coarsest }
+    requires flow { IsWithin arg_most at.0 }
+    requires tension { IsWithin arg_most at.1 }
+{
+    let curve = Curve::of_list(alloc, items, 0)?;
+    let level = Level::of(&curve, k);
+    let read = readings_of::<Level<Curve>, Brand>(&level, at.0, at.1, Blank::new(1));
+    assert_eq!(rt; read, want);
+    Ok(())
+}
+
+/// The levels are `0 2 1 5 3`, `0 5 2` without the piece that became a point, and `0 5 1`.
+#[test]
+fn level_readings(rt: HostRuntime) -> Result<(), Fail> {
+    let items = [At(0), At(2), At(4), At(5), At(10)];
+    let level_2 = Readings {
+        domain: (At(0), At(3)),
+        span: EVERYWHERE,
+        slopes: (At(2), At(5)),
+        range: (At(1), At(3)),
+    };
+    compare_level(&rt, rt.alloc(), &items, 2, (1, 5), level_2)?;
+    let level_3 = Readings {
+        domain: (At(0), At(2)),
+        span: EVERYWHERE,
+        slopes: (MinusInf, At(5)),
+        range: (At(0), At(0)),
+    };
+    compare_level(&rt, rt.alloc(), &items, 3, (0, 2), level_3)?;
+    let level_40 = Readings {
+        domain: (At(0), At(1)),
+        span: EVERYWHERE,
+        slopes: (PlusInf, PlusInf),
+        range: (At(0), At(1)),
+    };
+    compare_level(&rt, rt.alloc(), &items, 40, (1 << 62, 5), level_40)
+}
+
+/// A single point `5` is `0 0 1` at level 3; `-5 1 -3 2 7` is `-2 1 -1 2 2` at level 2, and
+/// `-4 -1 inf` is `-2 -1 inf` at level 1.
+#[test]
+fn level_readings_of_other_lists(rt: HostRuntime) -> Result<(), Fail> {
+    let point = Readings {
+        domain: (At(0), At(1)),
+        span: EVERYWHERE,
+        slopes: (MinusInf, At(0)),
+        range: (At(0), At(1)),
+    };
+    compare_level(&rt, rt.alloc(), &[At(5)], 3, (0, 0), point)?;
+    let uneven = Readings {
+        domain: (At(-2), At(2)),
+        span: EVERYWHERE,
+        slopes: (At(1), At(2)),
+        range: (At(-1), At(2)),
+    };
+    let items = [At(-5), At(1), At(-3), At(2), At(7)];
+    compare_level(&rt, rt.alloc(), &items, 2, (-1, 2), uneven)?;
+    let half_line = Readings {
+        domain: (At(-2), PlusInf),
+        span: (MinusInf, At(-1)),
+        slopes: (MinusInf, MinusInf),
+        range: (At(-2), PlusInf),
+    };
+    compare_level(
+        &rt,
+        rt.alloc(),
+        &[At(-4), At(-1), PlusInf],
+        1,
+        (-3, -1),
+        half_line,
+    )
 }
