@@ -2,7 +2,7 @@
 -- floor (a / 2q) before: if this was at most x, then a < 2q (x + 1), so floor (a / q) is at most 2 x + 1. So a flow within
 -- its domain, doubled, is at most 1 below its new lower end and, by opposites, at most 1 above its new upper end; never both, since
 -- the ends are in order. At the top all points are below the power of two, and 0 is within every domain.
-use Rattle.std.proofs.Common.{◌≡◌, ℕ, ◌+◌, ◌*◌, ◌^◌, ◌≤◌, ℤ, pos, ◌+ℤ◌, ◌-ℤ◌, ◌*ℤ◌, neg_ℤ, ◌≤ℤ◌, ◌<ℤ◌, List, refl, arith, pow_pos}
+use Rattle.std.proofs.Common.{◌≡◌, ℕ, ◌+◌, ◌*◌, ◌^◌, ◌≤◌, ℤ, pos, ◌+ℤ◌, ◌-ℤ◌, ◌*ℤ◌, neg_ℤ, ◌≤ℤ◌, ◌<ℤ◌, List, refl, arith, add-one, pow_pos}
 use Rattle.std.specs.Int.{int_div_euclid}
 use Rattle.std.proofs.lemmas.Int.{ints, clamps}
 use Rattle.theory.specs.declared.ext.Ext.{Ext}
@@ -23,7 +23,7 @@ use Rattle.feasible_flow.proofs.OneArc.{positive_part-is}
 
 quotient-twice : (k : ℕ) (a x : ℤ) → int_div_euclid a (pos (2 ^ (k + 1))) ≤ℤ x → int_div_euclid a (pos (2 ^ k)) ≤ℤ (pos 2 *ℤ x +ℤ pos 1)
 quotient-twice k a x under =
-    let power : 2 ^ (k + 1) ≡ 2 * 2 ^ k = omega arith in
+    let power : 2 ^ (k + 1) ≡ 2 * 2 ^ k = rw (add-one k) (omega arith) in
     let high = quotient_high (2 ^ (k + 1)) a (pow_pos (k + 1)) in
     let low = quotient_low (2 ^ k) a (pow_pos k) in
     let more = scale_mono (2 ^ (k + 1)) (int_div_euclid a (pos (2 ^ (k + 1))) +ℤ pos 1) (x +ℤ pos 1) (omega (arith, ints)) in
@@ -90,5 +90,7 @@ violation-top items list within =
     let high = surplus-top (last items) (last-within items list within) in
     rw (first-level level_most items list, last-level level_most items list) (omega arith)
 
-pub violation-zero : (items : List Ext) (x : ℤ) → IsCurveList items → violation (level_items 0 items) x ≡ 0 → violation items x ≡ 0
-violation-zero items x list none = rw level-zero items list at none
+pub violation-last : (k : ℕ) (items : List Ext) (x : ℤ) → k ≡ 0 → IsCurveList items → violation (level_items k items) x ≡ 0 → violation items x ≡ 0
+violation-last k items x last list none =
+    let same : level_items k items ≡ items = rw last (level-zero items list) in
+    rw same at none

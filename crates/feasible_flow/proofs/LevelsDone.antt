@@ -24,7 +24,7 @@ use Rattle.feasible_flow.specs.UnderWay.{IsUnderWay}
 use Rattle.feasible_flow.specs.ByLevels.{levels_of, leveled, flow_limit, IsSettled, WillDo}
 use Rattle.feasible_flow.proofs.OneArc.{inside}
 use Rattle.feasible_flow.proofs.Lists.{AreCurves, levels-at}
-use Rattle.feasible_flow.proofs.Doubling.{violation-twice, violation-top, violation-zero}
+use Rattle.feasible_flow.proofs.Doubling.{violation-twice, violation-top, violation-last}
 use Rattle.feasible_flow.proofs.ViolationFalls.{flow-within, zero-conserved}
 
 -- ---- ranges
@@ -132,11 +132,18 @@ settled-more f g curves k d x are level way none =
           violation-twice i (list_at (map f curves) j) («at» x j) (are.are_lists j) (rw (← next) (here j l));
       inside = λ e j l.
           let last : k ≡ 0 = omega arith in
-          violation-zero (list_at (map f curves) j) («at» x j) (are.are_lists j) (rw (← last) (here j l));
+          violation-last k (list_at (map f curves) j) («at» x j) last (are.are_lists j) (here j l);
     }
   where
     here : (j : ℕ) → j < length g.arcs → violation (level_items k (list_at (map f curves) j)) («at» x j) ≡ 0
     here j l = rw (← levels-at f k curves j (let n = are.one_each in omega arith)) (none j l)
+
+pub settled-near : (g : Graph) (lists : List (List Ext)) (d : ℕ) (x : List ℤ) → length g.arcs ≤ grounded_arcs_most → d ≤ level_most + 1
+    → IsSettled g lists d x → AreNear near_most x
+settled-near g lists d x few less settled j =
+    let most = leveled-few (length g.arcs) d few less in
+    let small = settled.small j in
+    (omega (arith, ints), omega (arith, ints))
 
 -- ---- the last level
 

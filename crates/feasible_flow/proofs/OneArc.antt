@@ -172,10 +172,10 @@ needed-most items x true = omega arith
 needed-most items x false = omega arith
 
 -- the same in the words of the code that measures the distance
-pub room-ahead : (items list : List Ext) (x : ℤ) (forward : Bool) (low high end : Ext) (room : ℕ) → list ≡ items → low ≡ first items → high ≡ last items
-    → end ≡ (if forward then high else low) → room ≡ distance end x → IsFree (domain_colour list x) forward
-    → (amount : ℕ) → amount ≤ room → HasRoom list x forward amount
-room-ahead items list x true low high end room list_is low_is high_is end_is room_is free amount most =
-    free-room list x true amount free (rw (list_is, ← high_is, ← end_is, ← room_is) most)
-room-ahead items list x false low high end room list_is low_is high_is end_is room_is free amount most =
-    free-room list x false amount free (rw (list_is, ← low_is, ← end_is, ← room_is) most)
+pub room-ahead : (items : List Ext) (x : ℤ) (forward : Bool) (low high end : Ext) (room : ℕ) → low ≡ first items → high ≡ last items
+    → end ≡ (if forward then high else low) → room ≡ distance end x → IsFree (domain_colour items x) forward
+    → (amount : ℕ) → amount ≤ room → HasRoom items x forward amount
+room-ahead items x true low high end room low_is high_is end_is room_is free amount most =
+    free-room items x true amount free (rw (← high_is, ← end_is, ← room_is) most)
+room-ahead items x false low high end room low_is high_is end_is room_is free amount most =
+    free-room items x false amount free (rw (← low_is, ← end_is, ← room_is) most)

@@ -1,7 +1,7 @@
 -- What the pass spends. At each level a round for each unit that the flows lack and a last look at each arc, and at the end one round more
 -- where a cut is found. A level costs at most 3 (2 m + n + 2) m readings, and twice that with a cut at the end; with 21 levels
 -- this is less than 3 * 21 * (m + 1) (n + 3) m, since m n >= n where there is an arc.
-use Rattle.std.proofs.Common.{ℕ, zero, suc, ◌+◌, ◌*◌, ◌≤◌, arith}
+use Rattle.std.proofs.Common.{◌≡◌, ℕ, zero, suc, ◌+◌, ◌*◌, ◌≤◌, Bool, true, false, refl, arith}
 use Rattle.std.proofs.Math.Nat.{mul-le-mul_left}
 use Rattle.theory.specs.Limits.{level_most}
 use Rattle.theory.specs.ReadingBound.{reading_unit}
@@ -35,6 +35,10 @@ cut-at-level n m violation d start old new few less before more =
     let e = level-most n m violation few in
     let all = mul-le-mul_left (level_cost n m m) less in
     omega (arith, e, all, before, more)
+
+pub either-spent : (settled : Bool) (new mid more : ℕ) → (settled ≡ true → new ≤ mid) → (settled ≡ false → new ≤ mid + more) → new ≤ mid + more
+either-spent true new mid more yes no = let e = yes refl in omega arith
+either-spent false new mid more yes no = no refl
 
 -- ---- all together
 

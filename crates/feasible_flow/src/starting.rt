@@ -29,9 +29,13 @@ impl<'a, C: Monotone> Domains<'a, C> {
         ensures count { steps.new ≤ steps.old + length net.now.arcs * look_cost }
     {
         let arcs = net.arcs() as u64;
-        are_within(work.flows(), arcs * NUMBER_MOST as u64)
-            && is_conserved(net, work.flows())
-            && self.lack_at_most(arcs * u64::from(LEVELS), work, steps)
+        if !are_within(work.flows(), arcs * NUMBER_MOST as u64) {
+            return false;
+        }
+        if !is_conserved(net, work.flows()) {
+            return false;
+        }
+        self.lack_at_most(arcs * LEVELS as u64, work, steps)
     }
 
     /// Whether the flows lack no more than this to their domains.
