@@ -98,7 +98,7 @@ pub lacks-few : {A : Type 0} (f : A → List Ext) (g : Graph) (curves : List A) 
     → total_violation (length g.arcs) (levels_of f k curves) y ≤ length g.arcs
 lacks-few f g curves k d x y are level settled twice =
     let all = total_below-most (length g.arcs) 1 (violation_at (levels_of f k curves) y)
-        (λ j l. rw (levels-at f k curves j (let n = are.one_each in omega arith), twice j) (settled.near k level j l)) in
+    (λ j l. rw (levels-at f k curves j (let n = are.one_each in omega arith), twice j) (settled.near k level j l)) in
     omega (arith, all)
 
 pub way-doubled : {A : Type 0} (f : A → List Ext) (g : Graph) (curves : List A) (k d : ℕ) (x y : List ℤ) → AreLeveled f g curves → k + d ≡ level_most

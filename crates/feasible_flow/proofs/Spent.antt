@@ -37,8 +37,8 @@ cut-at-level n m violation d start old new few less before more =
     omega (arith, e, all, before, more)
 
 pub either-spent : (settled : Bool) (new mid more : ℕ) → (settled ≡ true → new ≤ mid) → (settled ≡ false → new ≤ mid + more) → new ≤ mid + more
-either-spent true new mid more yes no = let e = yes refl in omega arith
-either-spent false new mid more yes no = no refl
+either-spent true new mid more if_settled if_cut = let e = if_settled refl in omega arith
+either-spent false new mid more if_settled if_cut = if_cut refl
 
 -- ---- all together
 

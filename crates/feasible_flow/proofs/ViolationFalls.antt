@@ -220,4 +220,4 @@ zero-outflow n pick x zeros = sum_below-zero n (λ j. counted (pick j) (x j)) (�
 pub zero-conserved : (g : Graph) (x : ℕ → ℤ) → ((j : ℕ) → x j ≡ pos 0) → IsConserved (bare g) x
 zero-conserved g x zeros i l =
     zero-outflow (length g.arcs) (λ j. tail (bare g) j == i) x zeros
-        ∙ sym (zero-outflow (length g.arcs) (λ j. head (bare g) j == i) x zeros)
+    ∙ sym (zero-outflow (length g.arcs) (λ j. head (bare g) j == i) x zeros)

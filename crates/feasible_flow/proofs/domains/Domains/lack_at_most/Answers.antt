@@ -10,7 +10,7 @@ pub returns-then-left-lacks-clause-answer : goal.returns-then-left-lacks-clause-
 returns-then-left-lacks-clause-answer g c =
     let lists = levels_of g.C.Monotone.items c.args.self.now.level c.args.self.now.curves.now in
     let more = lacks-more (length c.args.self.now.curves.now) c.loop-j.j c.args.amount c.loop-j.left c.violation_of-lacks.result
-        lists c.args.work.now.flows
-        (omega (arith, c.loop-j-test.true, c.arcs-j-end.ensures, c.args.work.now.sized.one_flow_each, c.requires.one_each))
-        c.loop-j.invariant.rest c.violation_of-lacks.ensures.value c.if-left-lacks.true in
+    lists c.args.work.now.flows
+    (omega (arith, c.loop-j-test.true, c.arcs-j-end.ensures, c.args.work.now.sized.one_flow_each, c.requires.one_each))
+    c.loop-j.invariant.rest c.violation_of-lacks.ensures.value c.if-left-lacks.true in
     (λ never. absurd (false≢true never), λ few. absurd (omega (arith, more, few)))

@@ -15,7 +15,7 @@ send_around-requires-clause-amount_near g c =
     let s = c.args.need.step in
     let lists = levels_of g.C.Monotone.items c.args.self.now.level c.args.self.now.curves.now in
     let few = need-within c.args.net.now lists (flow_limit (length c.args.net.now.arcs) c.args.self.now.level) c.args.work.now.flows s.arc.0
-        c.args.need.amount c.room_along-amount.result s.forward c.requires.under_way c.requires.there c.requires.need c.room_along-amount.ensures.most in
+    c.args.need.amount c.room_along-amount.result s.forward c.requires.under_way c.requires.there c.requires.need c.room_along-amount.ensures.most in
     omega (arith, few, c.requires.under_way.few)
 
 pub returns-in-Cut-clause-cut : goal.returns-in-Cut-clause-cut

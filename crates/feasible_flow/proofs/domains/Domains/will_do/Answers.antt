@@ -20,12 +20,11 @@ pub returns-clause-answer : goal.returns-clause-answer
 returns-clause-answer g c =
     let within = c.are_within.ensures.0 c.if-not-are_within.false in
     let conserved = c.is_conserved.ensures.0 c.if-not-is_conserved.false in
-    let one_each = c.requires.passable.one_curve_each in
-    (
+    let one_each = c.requires.passable.one_curve_each in (
       λ yes. record {
         conserved = rw (← c.flows-2.ensures) conserved;
         near = λ j. rw (← c.flows.ensures, ← c.arcs-arcs.ensures) (within j);
-        little = rw (← one_each, ← c.arcs-arcs.ensures) (c.lack_at_most.ensures.answer.0 yes);
+        little = let few = c.lack_at_most.ensures.answer.0 yes in rw (one_each, c.arcs-arcs.ensures) at few;
       },
       λ will. c.lack_at_most.ensures.answer.1 (rw (one_each, c.arcs-arcs.ensures) will.little),
     )
