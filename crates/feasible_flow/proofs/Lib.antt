@@ -7,5 +7,8 @@ pub mod Sending
 pub mod PathClosesCircuit
 pub mod ViolationFalls
 pub mod CutIsNegative
+-- Level by level:
+pub mod Doubling
+pub mod LevelsDone
 -- What it costs:
 pub mod Spent

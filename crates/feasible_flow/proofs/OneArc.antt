@@ -11,12 +11,11 @@ use Rattle.theory.specs.Ends.{IsAtLeast, IsAtMost, whole, is_below}
 use Rattle.theory.specs.CurveList.{first, last, IsCurveList}
 use Rattle.theory.specs.Domain.{InDomain}
 use Rattle.theory.specs.Painting.{IsFree}
-use Rattle.theory.specs.Limits.{IsWithin, number_most, AreWithin}
 use Rattle.theory.specs.Sent.{sends}
 use Rattle.feasible_flow.specs.Painting.{shade, domain_colour}
 use Rattle.feasible_flow.specs.Violations.{missing, surplus, violation, needed, HasRoom, distance}
 use Rattle.theory.specs.Sums.{positive_part}
-use Rattle.feasible_flow.proofs.DomainEnds.{AreEnds, both, from_a_point, to_a_point, everywhere, list-ends, first-within, last-within}
+use Rattle.feasible_flow.proofs.DomainEnds.{AreEnds, both, from_a_point, to_a_point, everywhere, list-ends}
 
 pub positive_part-is : (z : ℤ) → pos (positive_part z) ≡ int_max z (pos 0)
 positive_part-is (pos n) = omega (arith, ints, clamps)
@@ -115,22 +114,6 @@ pub need-room : (items : List Ext) (x : ℤ) (forward : Bool) (t : ℕ) → IsCu
 need-room items x true t list some most = missing-room (list-ends items list) x t some most
 need-room items x false t list some most = surplus-room (list-ends items list) x t some most
 
--- from 0 no end is further than the greatest point
-ends-most : {low high : Ext} → AreEnds low high → IsWithin number_most (whole low) → IsWithin number_most (whole high)
-    → missing low (pos 0) + surplus high (pos 0) ≤ number_most
-ends-most (both {a = a} {b = b} order) under over =
-    let p = positive_part-is (a -ℤ pos 0) in
-    let q = positive_part-is (pos 0 -ℤ b) in
-    let u = under.1 in
-    let o = over.0 in
-    omega (arith, ints, clamps)
-ends-most (from_a_point {a = a}) under over = let p = positive_part-is (a -ℤ pos 0) in let u = under.1 in omega (arith, ints, clamps)
-ends-most (to_a_point {b = b}) under over = let q = positive_part-is (pos 0 -ℤ b) in let o = over.0 in omega (arith, ints, clamps)
-ends-most everywhere under over = omega arith
-
-pub violation-most : (items : List Ext) → IsCurveList items → AreWithin number_most items → violation items (pos 0) ≤ number_most
-violation-most items list within = ends-most (list-ends items list) (first-within items within) (last-within items list within)
-
 -- ---- free steps
 
 pub shade-free : (up down forward : Bool) → IsFree (shade up down) forward → (if forward then up else down) ≡ true
@@ -189,10 +172,10 @@ needed-most items x true = omega arith
 needed-most items x false = omega arith
 
 -- the same in the words of the code that measures the distance
-pub room-ahead : (items list : List Ext) (x : ℤ) (forward : Bool) (low high end : Ext) (room : ℕ) → list ≡ items → low ≡ first items → high ≡ last items
-    → end ≡ (if forward then high else low) → room ≡ distance end x → IsFree (domain_colour list x) forward
-    → (amount : ℕ) → amount ≤ room → HasRoom list x forward amount
-room-ahead items list x true low high end room list_is low_is high_is end_is room_is free amount most =
-    free-room list x true amount free (rw (list_is, ← high_is, ← end_is, ← room_is) most)
-room-ahead items list x false low high end room list_is low_is high_is end_is room_is free amount most =
-    free-room list x false amount free (rw (list_is, ← low_is, ← end_is, ← room_is) most)
+pub room-ahead : (items : List Ext) (x : ℤ) (forward : Bool) (low high end : Ext) (room : ℕ) → low ≡ first items → high ≡ last items
+    → end ≡ (if forward then high else low) → room ≡ distance end x → IsFree (domain_colour items x) forward
+    → (amount : ℕ) → amount ≤ room → HasRoom items x forward amount
+room-ahead items x true low high end room low_is high_is end_is room_is free amount most =
+    free-room items x true amount free (rw (← high_is, ← end_is, ← room_is) most)
+room-ahead items x false low high end room low_is high_is end_is room_is free amount most =
+    free-room items x false amount free (rw (← low_is, ← end_is, ← room_is) most)

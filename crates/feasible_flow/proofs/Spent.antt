@@ -1,28 +1,62 @@
--- What the pass spends: a reading for each arc to begin, then a round for each unit of the total violation at most, and one
--- more for each arc.
-use Rattle.std.proofs.Common.{ℕ, zero, suc, ◌+◌, ◌*◌, ◌≤◌, arith}
+-- What the pass spends. At each level a round for each unit that the flows lack and a last look at each arc, and at the end one round more
+-- where a cut is found. A level costs at most 3 (2 m + n + 2) m readings, and twice that with a cut at the end; with 21 levels
+-- this is less than 3 * 21 * (m + 1) (n + 3) m, since m n >= n where there is an arc.
+use Rattle.std.proofs.Common.{◌≡◌, ℕ, zero, suc, ◌+◌, ◌*◌, ◌≤◌, Bool, true, false, refl, arith}
 use Rattle.std.proofs.Math.Nat.{mul-le-mul_left}
-use Rattle.theory.specs.ReadingBound.{unscaled_unit}
-use Rattle.feasible_flow.specs.Violations.{violation_most}
-use Rattle.feasible_flow.specs.UnderWay.{round_cost}
+use Rattle.theory.specs.Limits.{level_most}
+use Rattle.theory.specs.ReadingBound.{reading_unit}
+use Rattle.feasible_flow.specs.UnderWay.{round_cost, look_cost}
+use Rattle.feasible_flow.specs.ByLevels.{level_cost}
 
-pub begins-within : (n m violation start new : ℕ) → violation ≤ violation_most m → new ≤ start + m
-    → new + violation * round_cost n m ≤ start + m + (violation_most m + 0) * round_cost n m
-begins-within n m violation start new most few = let e = mul-le-mul_left (round_cost n m) most in omega (arith, e, few)
+-- a round more counts as a round for each arc, where there is one
+pub cut-spent : (n m j violation left start new : ℕ) → j + 1 ≤ m
+    → new + left ≤ start + violation * round_cost n m + j * look_cost + round_cost n m
+    → new ≤ start + level_cost n m violation + m * round_cost n m
+cut-spent n m j violation left start new few spent =
+    let e = mul-le-mul_left (round_cost n m) (some few) in
+    omega (arith, e, spent, few)
+  where
+    some : j + 1 ≤ m → 1 ≤ m
+    some few = omega arith
 
--- with the violation and the readings before and after one more arc
-pub one-more : (n m violation violation' j start old new : ℕ) → old + violation * round_cost n m ≤ start + (violation_most m + j) * round_cost n m
-    → new + violation' * round_cost n m ≤ old + violation * round_cost n m + round_cost n m
-    → new + violation' * round_cost n m ≤ start + (violation_most m + (j + 1)) * round_cost n m
-one-more n m violation violation' j start old new before more = omega (arith, before, more)
+-- a level that begins with a violation of at most m costs no more than one that begins with m
+level-most : (n m violation : ℕ) → violation ≤ m → level_cost n m violation ≤ level_cost n m m
+level-most n m violation few = let e = mul-le-mul_left (round_cost n m) few in omega (arith, e)
 
-all-spent : (n m : ℕ) → m + (violation_most m + m) * round_cost n m ≤ 3 * unscaled_unit n m
-all-spent n zero = omega arith
-all-spent n (suc m) = omega arith
+pub one-more-level : (n m violation d start old new : ℕ) → violation ≤ m → old ≤ start + d * level_cost n m m
+    → new ≤ old + level_cost n m violation → new ≤ start + (d + 1) * level_cost n m m
+one-more-level n m violation d start old new few before more =
+    let e = level-most n m violation few in
+    omega (arith, e, before, more)
 
-pub spent-most : (n m violation j start new : ℕ) → j ≤ m → new + violation * round_cost n m ≤ start + m + (violation_most m + j) * round_cost n m
-    → new ≤ start + 3 * unscaled_unit n m
-spent-most n m violation j start new few within =
-    let e = mul-le-mul_left (round_cost n m) few in
-    let all = all-spent n m in
-    omega (arith, e, all, within)
+pub cut-at-level : (n m violation d start old new : ℕ) → violation ≤ m → d + 1 ≤ level_most + 1 → old ≤ start + d * level_cost n m m
+    → new ≤ old + level_cost n m violation + m * round_cost n m → new ≤ start + (level_most + 1) * level_cost n m m + m * round_cost n m
+cut-at-level n m violation d start old new few less before more =
+    let e = level-most n m violation few in
+    let all = mul-le-mul_left (level_cost n m m) less in
+    omega (arith, e, all, before, more)
+
+pub either-spent : (settled : Bool) (new mid more : ℕ) → (settled ≡ true → new ≤ mid) → (settled ≡ false → new ≤ mid + more) → new ≤ mid + more
+either-spent true new mid more if_settled if_cut = let e = if_settled refl in omega arith
+either-spent false new mid more if_settled if_cut = if_cut refl
+
+-- ---- all together
+
+levels-all : (n m : ℕ) → m * look_cost + (level_most + 1) * level_cost n m m + m * round_cost n m ≤ 3 * reading_unit n m level_most
+levels-all n zero = omega arith
+levels-all n (suc m) = omega arith
+
+pub levels-spent : (n m start mid new : ℕ) → mid ≤ start + m * look_cost
+    → new ≤ mid + (level_most + 1) * level_cost n m m + m * round_cost n m → new ≤ start + 3 * reading_unit n m level_most
+levels-spent n m start mid new tested spent = let all = levels-all n m in omega (arith, all, tested, spent)
+
+start-all : (n m : ℕ) → m * look_cost + level_cost n m (m * level_most) + m * round_cost n m ≤ 3 * reading_unit n m level_most
+start-all n zero = omega arith
+start-all n (suc m) = omega arith
+
+pub start-spent : (n m violation start mid new : ℕ) → violation ≤ m * level_most → mid ≤ start + m * look_cost
+    → new ≤ mid + level_cost n m violation + m * round_cost n m → new ≤ start + 3 * reading_unit n m level_most
+start-spent n m violation start mid new little tested spent =
+    let all = start-all n m in
+    let e = mul-le-mul_left (round_cost n m) little in
+    omega (arith, e, all, tested, spent)

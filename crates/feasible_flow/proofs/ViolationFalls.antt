@@ -8,7 +8,7 @@ use Rattle.std.proofs.lemmas.Bool.{cases_lt}
 use Rattle.theory.specs.declared.ext.Ext.{Ext}
 use Rattle.theory.specs.declared.network.Step.{Step}
 use Rattle.theory.specs.Sums.{sum_below, counted, total_below}
-use Rattle.theory.specs.Limits.{IsWithin, number_most}
+use Rattle.theory.specs.Limits.{IsWithin}
 use Rattle.theory.specs.Network.{«at», tail, head, list_at}
 use Rattle.theory.specs.Conserved.{IsConserved, divergence}
 use Rattle.theory.specs.Circuit.{step, begin_of, end_of, IsCircuit, WalkIsThere}
@@ -19,11 +19,11 @@ use Rattle.theory.proofs.SumsBelow.{sum_below-zero, counted-zero}
 use Rattle.theory.proofs.SumLaw.{divergence-conserved}
 use Rattle.net_incidence.specs.Graph.{Graph, bare}
 use Rattle.painted_search.specs.Path.{IsFreePath}
-use Rattle.theory.proofs.Counting.{total_below-order, total_below-most, total_below-term}
+use Rattle.theory.proofs.Counting.{total_below-order, total_below-term}
 use Rattle.feasible_flow.specs.Painting.{painting}
-use Rattle.feasible_flow.specs.Violations.{IsNeed, violation, violation_at, total_violation, violation_most, needed, HasRoom}
+use Rattle.feasible_flow.specs.Violations.{IsNeed, violation, violation_at, total_violation, needed, HasRoom, near_most, AreNear}
 use Rattle.feasible_flow.specs.UnderWay.{IsUnderWay, AreNoFurther, IsNearer, AllHaveRoom}
-use Rattle.feasible_flow.proofs.OneArc.{violation-no_further, violation-falls, violation-most, need-room, needed-most}
+use Rattle.feasible_flow.proofs.OneArc.{violation-no_further, violation-falls, need-room, needed-most}
 use Rattle.feasible_flow.proofs.Lists.{AreCurves}
 use Rattle.feasible_flow.proofs.PathClosesCircuit.{closes}
 use Rattle.feasible_flow.proofs.Sending.{divergence-sent, length-sent, sent-here, sent-elsewhere, passes}
@@ -128,11 +128,12 @@ conserved-sent g lists t walk x round conserved i l =
     (divergence-conserved (bare g) («at» x) conserved i l) in
     omega (arith, ints)
 
-under_way-sent : (g : Graph) (lists : List (List Ext)) (t : ℕ) (walk : List Step) (x : List ℤ) → IsUnderWay g lists x
-    → IsSentRound g lists t walk x → IsUnderWay g lists (sent_round t walk x)
-under_way-sent g lists t walk x way round =
+under_way-sent : (g : Graph) (lists : List (List Ext)) (bound t : ℕ) (walk : List Step) (x : List ℤ) → IsUnderWay g lists bound x
+    → IsSentRound g lists t walk x → IsUnderWay g lists bound (sent_round t walk x)
+under_way-sent g lists bound t walk x way round =
     let falls = total-falls g lists t walk x round in
     record {
+      few = way.few;
       one_each = length-sent t walk x ∙ way.one_each;
       conserved = conserved-sent g lists t walk x round way.conserved;
       high = λ j. let moved = (each-moved g lists t walk x round j).up in let before = way.high j in omega (arith, ints);
@@ -141,12 +142,12 @@ under_way-sent g lists t walk x way round =
 
 -- ---- a need, and a path that has room for some of it
 
-is-sent_round : (g : Graph) (lists : List (List Ext)) (x : List ℤ) (walk : List Step) (s : Step) (need amount from to : ℕ)
-    → AreCurves lists → IsUnderWay g lists x → s.arc.0 < length g.arcs
+is-sent_round : (g : Graph) (lists : List (List Ext)) (bound : ℕ) (x : List ℤ) (walk : List Step) (s : Step) (need amount from to : ℕ)
+    → AreCurves lists → IsUnderWay g lists bound x → s.arc.0 < length g.arcs
     → IsNeed (list_at lists s.arc.0) («at» x s.arc.0) s.forward need → from ≡ end_of (bare g) s → to ≡ begin_of (bare g) s
     → IsFreePath (bare g) (painting lists x) walk from to → 1 ≤ amount → amount ≤ need → AllHaveRoom lists x walk amount
     → IsSentRound g lists amount (s ∷ walk) x
-is-sent_round g lists x walk s need amount from to curves way there lacks from_is to_is path some most rooms =
+is-sent_round g lists bound x walk s need amount from to curves way there lacks from_is to_is path some most rooms =
     let few : amount ≤ needed (list_at lists s.arc.0) («at» x s.arc.0) s.forward = omega (arith, most, lacks.exact) in
     let back : IsFreePath (bare g) (painting lists x) walk (end_of (bare g) s) (begin_of (bare g) s) = rw (← from_is, ← to_is) path in
     record {
@@ -166,35 +167,40 @@ is-sent_round g lists x walk s need amount from to curves way there lacks from_i
     all_rooms few (suc k) l = rooms k (omega arith)
 
 -- a round brings the flows nearer
-pub nearer-sent : (g : Graph) (lists : List (List Ext)) (x y : List ℤ) (walk : List Step) (s : Step) (need amount from to : ℕ)
-    → AreCurves lists → IsUnderWay g lists x → s.arc.0 < length g.arcs
+pub nearer-sent : (g : Graph) (lists : List (List Ext)) (bound : ℕ) (x y : List ℤ) (walk : List Step) (s : Step) (need amount from to : ℕ)
+    → AreCurves lists → IsUnderWay g lists bound x → s.arc.0 < length g.arcs
     → IsNeed (list_at lists s.arc.0) («at» x s.arc.0) s.forward need → from ≡ end_of (bare g) s → to ≡ begin_of (bare g) s
     → IsFreePath (bare g) (painting lists x) walk from to → 1 ≤ amount → amount ≤ need → AllHaveRoom lists x walk amount
-    → y ≡ sent_round amount (s ∷ walk) x → IsNearer g lists x y
-nearer-sent g lists x y walk s need amount from to curves way there lacks from_is to_is path some most rooms round_is =
-    let round = is-sent_round g lists x walk s need amount from to curves way there lacks from_is to_is path some most rooms in
+    → y ≡ sent_round amount (s ∷ walk) x → IsNearer g lists bound x y
+nearer-sent g lists bound x y walk s need amount from to curves way there lacks from_is to_is path some most rooms round_is =
+    let round = is-sent_round g lists bound x walk s need amount from to curves way there lacks from_is to_is path some most rooms in
     let falls = total-falls g lists amount (s ∷ walk) x round in
     rw round_is
     (record {
-      under_way = under_way-sent g lists amount (s ∷ walk) x way round;
+      under_way = under_way-sent g lists bound amount (s ∷ walk) x way round;
       no_further = no_further-sent g lists amount (s ∷ walk) x round;
       falls = omega (arith, falls, some);
     })
 
 -- ---- ranges
 
-pub total-within : (g : Graph) (lists : List (List Ext)) (x : List ℤ) → IsUnderWay g lists x
-    → total_violation (length g.arcs) lists x ≤ violation_most (length g.arcs)
-total-within g lists x way = let h = way.high 0 in let l = way.low 0 in omega (arith, ints)
+total-within : (g : Graph) (lists : List (List Ext)) (bound : ℕ) (x : List ℤ) → IsUnderWay g lists bound x
+    → total_violation (length g.arcs) lists x ≤ bound
+total-within g lists bound x way = let h = way.high 0 in let l = way.low 0 in omega (arith, ints)
 
-pub flow-within : (g : Graph) (lists : List (List Ext)) (x : List ℤ) → IsUnderWay g lists x → (j : ℕ)
-    → IsWithin (violation_most (length g.arcs)) («at» x j)
-flow-within g lists x way j = let h = way.high j in let l = way.low j in (omega (arith, ints), omega (arith, ints))
+pub flow-within : (g : Graph) (lists : List (List Ext)) (bound : ℕ) (x : List ℤ) → IsUnderWay g lists bound x → AreNear bound x
+flow-within g lists bound x way j = let h = way.high j in let l = way.low j in (omega (arith, ints), omega (arith, ints))
 
-pub need-within : (g : Graph) (lists : List (List Ext)) (x : List ℤ) (j need amount : ℕ) (forward : Bool) → IsUnderWay g lists x
-    → j < length g.arcs → IsNeed (list_at lists j) («at» x j) forward need → amount ≤ need → amount ≤ violation_most (length g.arcs)
-need-within g lists x j need amount forward way there lacks most =
-    let all = total-within g lists x way in
+pub flow-near : (g : Graph) (lists : List (List Ext)) (bound : ℕ) (x : List ℤ) → IsUnderWay g lists bound x → AreNear near_most x
+flow-near g lists bound x way j =
+    let within = flow-within g lists bound x way j in
+    let few = way.few in
+    (omega (arith, ints), omega (arith, ints))
+
+pub need-within : (g : Graph) (lists : List (List Ext)) (bound : ℕ) (x : List ℤ) (j need amount : ℕ) (forward : Bool) → IsUnderWay g lists bound x
+    → j < length g.arcs → IsNeed (list_at lists j) («at» x j) forward need → amount ≤ need → amount ≤ bound
+need-within g lists bound x j need amount forward way there lacks most =
+    let all = total-within g lists bound x way in
     let term = total_below-term (length g.arcs) j (violation_at lists x) there in
     let here = needed-most (list_at lists j) («at» x j) forward in
     omega (arith, lacks.exact)
@@ -211,20 +217,7 @@ lacks-more m j amount left lacks lists x there rest is less =
 zero-outflow : (n : ℕ) (pick : ℕ → Bool) (x : ℕ → ℤ) → ((j : ℕ) → x j ≡ pos 0) → sum_below n (λ j. counted (pick j) (x j)) ≡ pos 0
 zero-outflow n pick x zeros = sum_below-zero n (λ j. counted (pick j) (x j)) (λ k l. counted-zero (pick k) (x k) (zeros k))
 
-pub total-most : (m : ℕ) (lists : List (List Ext)) (x : List ℤ) → AreCurves lists → ((j : ℕ) → «at» x j ≡ pos 0)
-    → total_violation m lists x ≤ violation_most m
-total-most m lists x curves zeros =
-    total_below-most m number_most (violation_at lists x)
-    (λ j l. rw (zeros j) (violation-most (list_at lists j) (curves.are_lists j) (curves.within j)))
-
-pub under_way-zero : (g : Graph) (lists : List (List Ext)) (x : List ℤ) → AreCurves lists → length x ≡ length g.arcs
-    → ((j : ℕ) → «at» x j ≡ pos 0) → IsUnderWay g lists x
-under_way-zero g lists x curves one_each zeros =
-    let most = total-most (length g.arcs) lists x curves zeros in
-    record {
-      one_each = one_each;
-      conserved = λ i l. zero-outflow (length g.arcs) (λ j. tail (bare g) j == i) («at» x) zeros
-          ∙ sym (zero-outflow (length g.arcs) (λ j. head (bare g) j == i) («at» x) zeros);
-      high = λ j. let z = zeros j in omega (arith, ints);
-      low = λ j. let z = zeros j in omega (arith, ints);
-    }
+pub zero-conserved : (g : Graph) (x : ℕ → ℤ) → ((j : ℕ) → x j ≡ pos 0) → IsConserved (bare g) x
+zero-conserved g x zeros i l =
+    zero-outflow (length g.arcs) (λ j. tail (bare g) j == i) x zeros
+    ∙ sym (zero-outflow (length g.arcs) (λ j. head (bare g) j == i) x zeros)

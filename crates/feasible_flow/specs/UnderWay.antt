@@ -1,4 +1,5 @@
--- Flows on the way to their domains: conserved, and none further from 0 than the violations have fallen together.
+-- Flows on the way to their domains: conserved, and none further from 0 than a bound less all that is still lacking. Each unit
+-- that the violations fall by moves a flow by a unit at most.
 use Rattle.std.specs.Prelude.{◌≡◌, ℕ, ◌+◌, ◌*◌, ◌≤◌, ◌<◌, ℤ, pos, ◌+ℤ◌, ◌≤ℤ◌, List, length}
 use Rattle.theory.specs.declared.ext.Ext.{Ext}
 use Rattle.theory.specs.declared.network.Step.{Step}
@@ -7,21 +8,22 @@ use Rattle.theory.specs.Conserved.{IsConserved}
 use Rattle.theory.specs.Circuit.{step}
 use Rattle.net_incidence.specs.Graph.{Graph, bare}
 use Rattle.painted_search.specs.Room.{Room}
-use Rattle.feasible_flow.specs.Violations.{violation_at, total_violation, violation_most, HasRoom}
+use Rattle.feasible_flow.specs.Violations.{violation_at, total_violation, near_most, HasRoom}
 
-pub record IsUnderWay (g : Graph) (lists : List (List Ext)) (x : List ℤ) : Type 0 where
+pub record IsUnderWay (g : Graph) (lists : List (List Ext)) (bound : ℕ) (x : List ℤ) : Type 0 where
+  pub few : bound ≤ near_most
   pub one_each : length x ≡ length g.arcs
   pub conserved : IsConserved (bare g) («at» x)
-  pub high : (j : ℕ) → («at» x j +ℤ pos (total_violation (length g.arcs) lists x)) ≤ℤ pos (violation_most (length g.arcs))
-  pub low : (j : ℕ) → pos (total_violation (length g.arcs) lists x) ≤ℤ («at» x j +ℤ pos (violation_most (length g.arcs)))
+  pub high : (j : ℕ) → («at» x j +ℤ pos (total_violation (length g.arcs) lists x)) ≤ℤ pos bound
+  pub low : (j : ℕ) → pos (total_violation (length g.arcs) lists x) ≤ℤ («at» x j +ℤ pos bound)
 
 -- no violation is greater than it was
 abbrev pub AreNoFurther : List (List Ext) → List ℤ → List ℤ → Type 0
 AreNoFurther lists x y = (j : ℕ) → violation_at lists y j ≤ violation_at lists x j
 
 -- still under way, and the total violation is less
-pub record IsNearer (g : Graph) (lists : List (List Ext)) (x y : List ℤ) : Type 0 where
-  pub under_way : IsUnderWay g lists y
+pub record IsNearer (g : Graph) (lists : List (List Ext)) (bound : ℕ) (x y : List ℤ) : Type 0 where
+  pub under_way : IsUnderWay g lists bound y
   pub no_further : AreNoFurther lists x y
   pub falls : total_violation (length g.arcs) lists y + 1 ≤ total_violation (length g.arcs) lists x
 
@@ -40,9 +42,13 @@ pub record IsSameButFlows (v w : Room) : Type 0 where
 
 -- ---- what it costs
 
--- the most readings of a look at one arc, a search and a look along the path that it found
+-- the most readings of a look at one arc: those of a level's domain
+abbrev pub look_cost : ℕ
+look_cost = 3
+
+-- of a look at one arc, a search and a look along the path that it found
 abbrev pub round_cost : ℕ → ℕ → ℕ
-round_cost n m = 2 * m + n + 1
+round_cost n m = (2 * m + n + 1) * look_cost
 
 -- the most readings that the violations can still cost, with a round for each unit
 abbrev pub readings_left : Graph → List (List Ext) → List ℤ → ℕ

@@ -7,6 +7,7 @@ ghost use Rattle.theory.specs.Sent.{sends, sent, sent_round};
 ghost use Rattle.painted_search.specs.Writes.{with_flow};
 ghost use Rattle.feasible_flow.specs.Violations.{near_most, AreNear};
 ghost use Rattle.feasible_flow.specs.UnderWay.{IsSameButFlows};
+ghost use Rattle.feasible_flow.specs.ByLevels.{IsDoubled};
 
 use net_incidence::{ArcId, Step};
 use painted_search::Work;
@@ -18,6 +19,18 @@ pub(crate) fn clear_flows(work: &mut Work)
 {
     for j in 0..work.arcs() {
         work.set_flow(ArcId(j as u32), 0);
+    }
+}
+
+/// Every flow becomes twice as great.
+pub(crate) fn double_flows(work: &mut Work)
+    requires { AreNear near_most work.old.flows }
+    ensures { IsDoubled work.old work.new }
+{
+    for j in 0..work.arcs() {
+        let arc = ArcId(j as u32);
+        let flow = work.flow(arc);
+        work.set_flow(arc, 2 * flow);
     }
 }
 

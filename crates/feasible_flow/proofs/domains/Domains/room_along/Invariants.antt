@@ -1,7 +1,9 @@
-use Rattle.std.proofs.Common.{ℕ, ◌+◌, ◌<◌, ◌≤◌, map}
+use Rattle.std.proofs.Common.{ℕ, ◌+◌, ◌*◌, ◌<◌, ◌≤◌}
 use Rattle.theory.specs.Network.{«at», list_at}
 use Rattle.theory.specs.Circuit.{step}
 use Rattle.feasible_flow.specs.Violations.{HasRoom}
+use Rattle.feasible_flow.specs.UnderWay.{look_cost}
+use Rattle.feasible_flow.specs.ByLevels.{levels_of}
 use Rattle.feasible_flow.proofs.domains.Domains.room_along.Given as goal
 
 abbrev pub invariant-loop-step : goal.invariant-loop-step
@@ -9,8 +11,8 @@ invariant-loop-step g l = record {
   some : 1 ≤ l.room;
   most : l.room ≤ l.fn.amount;
   room : (k : ℕ) → k < l.step-index → (amount : ℕ) → amount ≤ l.room
-      → HasRoom (list_at (map g.C.Monotone.items l.self.curves.now) (step l.work.walk k).arc.0) («at» l.work.flows (step l.work.walk k).arc.0)
+      → HasRoom (list_at (levels_of g.C.Monotone.items l.self.level l.self.curves.now) (step l.work.walk k).arc.0) («at» l.work.flows (step l.work.walk k).arc.0)
       (step l.work.walk k).forward amount;
   no_fewer : l.initial.steps ≤ l.steps;
-  count : l.steps ≤ l.initial.steps + l.step-index;
+  count : l.steps ≤ l.initial.steps + l.step-index * look_cost;
 }

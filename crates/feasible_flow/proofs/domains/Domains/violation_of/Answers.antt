@@ -1,9 +1,15 @@
-use Rattle.std.proofs.Common.{get_or}
-use Rattle.feasible_flow.proofs.DomainEnds.{last-within}
+use Rattle.feasible_flow.proofs.DomainEnds.{first-within, last-within}
+use Rattle.feasible_flow.proofs.Lists.{level-curves}
 use Rattle.feasible_flow.proofs.domains.Domains.violation_of.Goals as goal
+
+pub missing-requires-clause-end_within : goal.missing-requires-clause-end_within
+missing-requires-clause-end_within g c =
+    let curves = level-curves g.C.Monotone.items g.met.C.Monotone.is_list g.met.C.Monotone.items_within c.args.self.now.level
+    c.args.self.now.curves.now in
+    rw c.ends-low.ensures.low (first-within _ (curves.within c.args.arc.0))
 
 pub surplus-requires-clause-end_within : goal.surplus-requires-clause-end_within
 surplus-requires-clause-end_within g c =
-    let curve = get_or c.args.self.now.curves.now c.args.arc.0 c.index-self-arc.result in
-    rw c.domain-low.ensures.high
-    (last-within (g.C.Monotone.items curve) (g.met.C.Monotone.is_list curve) (g.met.C.Monotone.items_within curve))
+    let curves = level-curves g.C.Monotone.items g.met.C.Monotone.is_list g.met.C.Monotone.items_within c.args.self.now.level
+    c.args.self.now.curves.now in
+    rw c.ends-low.ensures.high (last-within _ (curves.are_lists c.args.arc.0) (curves.within c.args.arc.0))
