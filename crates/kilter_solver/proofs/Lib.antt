@@ -21,5 +21,7 @@ pub mod Parts
 pub mod Pairs
 pub mod RightKind
 pub mod Fuelled
+-- Potentials closer together:
+pub mod Heights
 -- In tests:
 pub mod Beginning

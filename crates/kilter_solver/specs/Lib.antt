@@ -16,3 +16,5 @@ pub mod FeasibleParts
 pub mod Whole
 -- Curves by the arc:
 pub mod BundleFacts
+-- Potentials closer together:
+pub mod Gaps
