@@ -11,15 +11,15 @@ use Rattle.model_text.specs.Model.{IsWellFormed, arc_names, place_of}
 use Rattle.model_text.proofs.SpelledForm.{spelled_is_formed}
 use Rattle.outside_io.specs.Seen.{Outside}
 use Rattle.mono_top.specs.Answer.{Answers, AnswersModel, behind}
-use Rattle.mono_top.specs.Causes.{Asks, AsksFaulty, AsksInvalid, AsksToCheck, AsksUnknownArc}
+use Rattle.mono_top.specs.Causes.{Asks, AsksFaulty, AsksInvalid, AsksToCheck, AsksTrial, AsksUnknownArc}
 use Rattle.mono_top.specs.Checks.{ChecksText}
 use Rattle.mono_top.specs.Due.{IsDue, IsDueOfFiles}
 use Rattle.mono_top.specs.OfModel.{OfModel}
-use Rattle.mono_top.specs.Request.{Request, about_model, Question, solve, check, show_curve, later_files, files_of}
+use Rattle.mono_top.specs.Request.{Request, about_model, about_trial, Question, solve, check, show_curve, later_files, files_of}
 use Rattle.mono_top.specs.ShowsCurve.{ShowsAt}
 use Rattle.mono_top.specs.declared.lines.Place.TheVariants.{First, Second}
 use Rattle.mono_top.specs.declared.status.Status.{Status}
-use Rattle.mono_top.specs.declared.status.Status.TheVariants.{Rejected, Usage, ModelRefused, Missing, ReadFault, TooLong, UnknownArc}
+use Rattle.mono_top.specs.declared.status.Status.TheVariants.{Done, Rejected, Usage, ModelRefused, Missing, ReadFault, TooLong, UnknownArc}
 use Rattle.mono_top.proofs.CheckLemmas.{IsJudged, judged, invalid_is_rejected, rejected_is_invalid}
 use Rattle.mono_top.proofs.Ends.{ends, not_by, answer_ends, later_due}
 use Rattle.mono_top.proofs.ModelFileLemmas.{of_model_file, of_text, reached, next_of_model, fault_is_refused}
@@ -41,8 +41,9 @@ pub record IsAnswered (request : Option Request) (outside : Outside) (status : S
   pub ended : ends question status ≡ true
   pub answer : ForSome outside.holds (λ files. (m : Entries) × (asks : Asks files question m request) × AnswersModel question (behind asks.0 outside) m status text)
 
--- the words, the model's file and its text were not refused
+-- something was refused, and it was not the words, the model's file or its text
 record IsPast (status : Status) : Type 0 where
+  refused : status ≢ Done
   listed : status ≢ Usage
   held : status ≢ Missing
   read : status ≢ ReadFault
@@ -52,6 +53,7 @@ record IsPast (status : Status) : Type 0 where
 answered : (request : Option Request) (outside : Outside) (status : Status) (text : List ℕ) → Answers request outside status text → IsPast status
     → IsAnswered request outside status text
 answered None outside status text refused past = absurd (past.listed refused.0)
+answered (Some (about_trial number)) outside status text reported past = absurd (past.refused reported.done)
 answered (Some (about_model model question)) outside status text reads past =
     let of = of_text First model (OfModel (AnswersModel question (behind model outside))) outside status text reads past.held past.read past.short in
     elim of.next [
@@ -75,6 +77,7 @@ never_model question line word = refl
 
 usage_is_none : (request : Option Request) (outside : Outside) (status : Status) (text : List ℕ) → Answers request outside status text → status ≡ Usage → request ≡ None
 usage_is_none None outside status text refused is = refl
+usage_is_none (Some (about_trial number)) outside status text reported is = let done = reported.done in absurd cc
 usage_is_none (Some (about_model model question)) outside status text reads is =
     let of = of_text First model (OfModel (AnswersModel question (behind model outside))) outside status text reads (λ e. cc) (λ e. cc) (λ e. cc) in
     elim of.next [
@@ -85,6 +88,11 @@ usage_is_none (Some (about_model model question)) outside status text reads is =
 none_is_usage : (request : Option Request) (outside : Outside) (status : Status) (text : List ℕ) → Answers request outside status text → request ≡ None → status ≡ Usage
 none_is_usage None outside status text refused is = refused.0
 none_is_usage (Some command) outside status text reads is = absurd cc
+
+trial_is_done : (request : Option Request) (outside : Outside) (status : Status) (text : List ℕ) → Answers request outside status text → AsksTrial request → status ≡ Done
+trial_is_done request outside status text answers (number, is) =
+    let reported : Answers (Some (about_trial number)) outside status text = subst (λ (r : Option Request). Answers r outside status text) is answers in
+    reported.done
 
 -- what is due of the later files, as it is said behind the first, is due of them
 of_later : (model : List ℕ) (names : List (List ℕ)) (outside : Outside) (status : Status) → IsDueOfFiles names (behind model outside) status → IsDueOfFiles names outside status
@@ -100,12 +108,14 @@ of_later model names outside status due = record {
 
 files_due : (request : Option Request) (outside : Outside) (status : Status) (text : List ℕ) → Answers request outside status text → IsDueOfFiles (files_of request) outside status
 files_due None outside status text refused = search rules
+files_due (Some (about_trial number)) outside status text reported = let done = reported.done in search rules
 files_due (Some (about_model model question)) outside status text reads =
     of_model_file model (later_files question) (AnswersModel question (behind model outside)) outside status text (λ m next. of_later model (later_files question) outside status (later_due question (behind model outside) m status text next)) reads
 
 faulty_only : (request : Option Request) (outside : Outside) (status : Status) (text : List ℕ) → Answers request outside status text
     → (line : ℕ) (word : FaultWord) → status ≡ ModelRefused line word → ForSome outside.holds (λ files. AsksFaulty files line word request)
 faulty_only None outside status text refused line word is files told = let usage = refused.0 in absurd cc
+faulty_only (Some (about_trial number)) outside status text reported line word is files told = let done = reported.done in absurd cc
 faulty_only (Some (about_model model question)) outside status text reads line word is files told =
     let of = of_text First model (OfModel (AnswersModel question (behind model outside))) outside status text reads (λ e. cc) (λ e. cc) (λ e. cc) in
     elim of.next [
@@ -169,6 +179,7 @@ due request outside status text answers =
     record {
       usage = usage_is_none request outside status text answers;
       usage_always = none_is_usage request outside status text answers;
+      trial = trial_is_done request outside status text answers;
       of_files = of_files;
       refused = λ line word. record {
         only = faulty_only request outside status text answers line word;

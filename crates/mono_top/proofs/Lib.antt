@@ -5,3 +5,4 @@ pub mod CheckLemmas
 pub mod Ends
 pub mod DueLemmas
 pub mod HeadlineLemmas
+pub mod NumberLemmas

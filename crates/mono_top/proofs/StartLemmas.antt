@@ -9,7 +9,7 @@ use Rattle.mono_top.specs.Answer.{ReadsThen}
 use Rattle.mono_top.specs.Fetch.{FetchesModel, text_of}
 use Rattle.mono_top.specs.OfModel.{OfModel}
 use Rattle.mono_top.specs.Reading.{IsModelFile}
-use Rattle.mono_top.specs.Request.{Request, about_model, Question, check, later_files}
+use Rattle.mono_top.specs.Request.{Request, about_model, about_trial, Question, check, later_files}
 use Rattle.mono_top.specs.Starts.{StartsFiles, StartsLater}
 use Rattle.mono_top.specs.declared.fetch.FetchedModel.TheVariants.{Model, Refused}
 use Rattle.mono_top.specs.declared.lines.Place.TheVariants.{First}
@@ -51,6 +51,7 @@ starts_all model question outside starved found (bytes, held, short, spells) sta
 abbrev first_of : Option Request → List ℕ → List ℕ
 first_of None other = other
 first_of (Some (about_model model question)) other = model
+first_of (Some (about_trial number)) other = other
 
 -- the first file was refused, and no other was started
 pub starts_refused : (model : List ℕ) (question : Question) (outside : Outside) (starved : Type 0) (reply : Reply)
@@ -66,6 +67,10 @@ starts_refused model question outside starved reply refused started = record {
 -- no file was started
 pub starts_none : (outside : Outside) (starved : Type 0) → outside.started [] → StartsFiles None outside starved
 starts_none outside starved started = record { in_turn = started; all = λ files told asks quiet. let is = asks.2.1 in absurd cc }
+
+-- nor for a trial
+pub starts_none_for_trial : (number : ℕ) (outside : Outside) (starved : Type 0) → outside.started [] → StartsFiles (Some (about_trial number)) outside starved
+starts_none_for_trial number outside starved started = record { in_turn = started; all = λ files told asks quiet. let is = asks.2.1 in absurd cc }
 
 -- the same with another word for a call that starved
 pub starved_by : (request : Option Request) (outside : Outside) (starved other : Type 0) → (starved → other) → StartsFiles request outside starved → StartsFiles request outside other

@@ -9,12 +9,14 @@ use Rattle.outside_io.specs.Files.{file_of}
 use Rattle.outside_io.specs.Seen.{Outside}
 use Rattle.mono_top.specs.Lines.{usage_line, missing_line, read_fault_line, too_long_line}
 use Rattle.mono_top.specs.Reading.{IsReadPastMost}
-use Rattle.mono_top.specs.Request.{Request, about_model, Question, solve, check, feasible, show_curve}
+use Rattle.mono_top.specs.Request.{Request, about_model, about_trial, Question, solve, check, feasible, show_curve}
 use Rattle.mono_top.specs.OfModel.{OfModel}
 use Rattle.mono_top.specs.Checks.{ChecksText}
 use Rattle.mono_top.specs.ShowsCurve.{ShowsCurve}
 use Rattle.mono_top.specs.FindsFeasible.{FindsFeasible}
 use Rattle.mono_top.specs.Solves.{IsCertified}
+use Rattle.mono_top.specs.Reports.{IsReported}
+use Rattle.trial_model.specs.Trial.{trial_entries}
 use Rattle.mono_top.specs.declared.lines.Place.{Place}
 use Rattle.mono_top.specs.declared.lines.Place.TheVariants.{First, Second}
 use Rattle.mono_top.specs.declared.status.Status.{Status}
@@ -50,3 +52,4 @@ abbrev pub Answers : Option Request → Outside → Status → List ℕ → Type
 Answers None outside status text = (status ≡ Usage) × (text ≡ usage_line)
 Answers (Some (about_model model question)) outside status text =
     ReadsThen First model (OfModel (AnswersModel question (behind model outside))) outside status text
+Answers (Some (about_trial number)) outside status text = IsReported (trial_entries number) status text

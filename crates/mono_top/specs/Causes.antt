@@ -9,9 +9,9 @@ use Rattle.model_text.specs.Model.{place_of, arc_names}
 use Rattle.model_text.specs.ModelText.{Spells, IsFirstFault}
 use Rattle.mono_top.specs.Checks.{IsValidText}
 use Rattle.mono_top.specs.Reading.{IsFileWith, AllReadable}
-use Rattle.mono_top.specs.Request.{Request, about_model, Question, check, show_curve, files_of}
+use Rattle.mono_top.specs.Request.{Request, about_model, about_trial, Question, check, show_curve, files_of}
 use Rattle.mono_top.specs.declared.status.Status.{Status}
-use Rattle.mono_top.specs.declared.status.Status.TheVariants.{Usage, Missing, ReadFault, WriteFault, NoMemory, TooLong}
+use Rattle.mono_top.specs.declared.status.Status.TheVariants.{Done, Usage, Missing, ReadFault, WriteFault, NoMemory, TooLong}
 
 -- the request asks this question about a model file, and P holds of the file's text
 abbrev pub AsksOfText : Files → Question → (List ℕ → Type 0) → Option Request → Type 0
@@ -42,6 +42,14 @@ AsksUnknownArc files request =
 -- a command was asked for, and its files are readable
 abbrev pub IsAnswerable : Files → Option Request → Type 0
 IsAnswerable files request = IsSome request × AllReadable files (files_of request)
+
+-- a trial model was asked for
+abbrev pub AsksTrial : Option Request → Type 0
+AsksTrial request = (number : ℕ) × (request ≡ Some (about_trial number))
+
+-- it was reported, but for want of memory and a fault of the sink
+abbrev pub EndsTrial : Status → Type 0
+EndsTrial result = (result ≡ Done) ⊎ (result ≡ NoMemory) ⊎ (result ≡ WriteFault)
 
 -- where the source tells its files and they are such: the status comes, but for a fault of the source, want of memory, or a
 -- fault of the sink

@@ -1,4 +1,4 @@
--- How often a call reads curves: within the bound of the model that its file spells, and else not at all.
+-- How often a call reads curves: within the bound of the model that its file spells or its number draws, and else not at all.
 use Rattle.std.specs.Prelude.{◌≡◌, ℕ, ◌+◌, ◌≤◌, List, length, Option, Some, None}
 use Rattle.std.specs.Option.{ForSome}
 use Rattle.theory.specs.Network.{Network}
@@ -7,7 +7,8 @@ use Rattle.theory.specs.ReadingBound.{unscaled_bound}
 use Rattle.outside_io.specs.Files.{Files}
 use Rattle.model_text.specs.ModelText.{Spells}
 use Rattle.mono_top.specs.Reading.{IsFileWith, IsModelFile}
-use Rattle.mono_top.specs.Request.{Request, about_model, Question, solve, feasible}
+use Rattle.mono_top.specs.Request.{Request, about_model, about_trial, Question, solve, feasible}
+use Rattle.trial_model.specs.Trial.{trial_entries}
 
 abbrev pub net_bound : Network → ℕ
 net_bound net = unscaled_bound net.nodes (length net.arcs)
@@ -34,3 +35,4 @@ pub record ReadsWithin (model : List ℕ) (question : Question) (holds : Option 
 abbrev pub CountsReadings : Option Request → Option Files → ℕ → ℕ → Type 0
 CountsReadings None holds before now = now ≡ before
 CountsReadings (Some (about_model model question)) holds before now = ReadsWithin model question holds before now
+CountsReadings (Some (about_trial number)) holds before now = ReadsCurves solve (trial_entries number) before now

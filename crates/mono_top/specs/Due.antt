@@ -3,11 +3,11 @@ use Rattle.std.specs.Prelude.{◌≡◌, ◌≢◌, ℕ, List, Option, None}
 use Rattle.std.specs.Option.{ForSome}
 use Rattle.outside_io.specs.Seen.{Outside}
 use Rattle.model_text.specs.declared.fault.FaultWord.{FaultWord}
-use Rattle.mono_top.specs.Causes.{AsksFaulty, AsksInvalid, AsksUnknownArc, ComesBy}
+use Rattle.mono_top.specs.Causes.{AsksFaulty, AsksInvalid, AsksTrial, AsksUnknownArc, ComesBy}
 use Rattle.mono_top.specs.Reading.{AllReadable, ReachesMissing, ReachesPastMost, ReachesTooLong}
 use Rattle.mono_top.specs.Request.{Request, files_of}
 use Rattle.mono_top.specs.declared.status.Status.{Status}
-use Rattle.mono_top.specs.declared.status.Status.TheVariants.{Rejected, Usage, ModelRefused, Missing, ReadFault, WriteFault, NoMemory, TooLong, UnknownArc}
+use Rattle.mono_top.specs.declared.status.Status.TheVariants.{Done, Rejected, Usage, ModelRefused, Missing, ReadFault, WriteFault, NoMemory, TooLong, UnknownArc}
 
 -- of the files that were to be read, in this order
 pub record IsDueOfFiles (names : List (List ℕ)) (outside : Outside) (status : Status) : Type 0 where
@@ -23,6 +23,7 @@ pub record IsDueOfFiles (names : List (List ℕ)) (outside : Outside) (status : 
 pub record IsDue (request : Option Request) (outside : Outside) (status : Status) : Type 0 where
   pub usage : status ≡ Usage → request ≡ None
   pub usage_always : request ≡ None → status ≡ Usage
+  pub trial : AsksTrial request → status ≡ Done
   pub of_files : IsDueOfFiles (files_of request) outside status
   pub refused : (line : ℕ) (word : FaultWord) → ComesBy (ModelRefused line word) (λ files. AsksFaulty files line word request) outside status
   pub rejected : ComesBy Rejected (λ files. AsksInvalid files request) outside status

@@ -11,9 +11,11 @@ pub mod Lines
 pub mod OfModel
 pub mod Reading
 pub mod Replies
+pub mod Reports
 pub mod Request
 pub mod ShowsCurve
 pub mod Solves
 pub mod Starts
 pub mod Status
+pub mod TrialNumber
 pub mod VerdictLines

@@ -1,8 +1,11 @@
 -- What a list of words asks for. A further command is one more constructor, and one more line in each definition here.
 use Rattle.std.specs.Prelude.{List, [], ◌∷◌, ℕ, map, codes, Option, Some, None, nat_eq, if◌then◌else◌, string_bytes, String}
 use Rattle.std.specs.Cmp.Lexicographic.{pointwise}
+use Rattle.std.specs.Option.{option_map}
 use Rattle.std.specs.declared.alloc.Global.{Global}
+use Rattle.mono_top.specs.TrialNumber.{trial_number}
 use Rattle.mono_top.specs.declared.command.Command.{Command}
+use Rattle.mono_top.specs.declared.command.Command.TheVariants.{OnModel, Trial}
 use Rattle.mono_top.specs.declared.command.Task.{Task}
 use Rattle.mono_top.specs.declared.command.Task.TheVariants.{Solve, Check, Feasible, Curve}
 
@@ -13,9 +16,10 @@ pub data Question : Type 0 where
   feasible : Question
   show_curve : (arc : List ℕ) → Question
 
--- what may be asked for, with the name of the first file
+-- what may be asked for: a question about a model, with the name of its file; or the trial model of a number, which names no file
 pub data Request : Type 0 where
   about_model : (model : List ℕ) (question : Question) → Request
+  about_trial : (number : ℕ) → Request
 
 -- the words, each as its bytes
 abbrev pub texts : List (String Global) → List (List ℕ)
@@ -23,9 +27,10 @@ texts words = map string_bytes words
 
 -- what the words ask for; words that are no command ask for nothing
 abbrev pub request_of : List (List ℕ) → Option Request
-request_of (command ∷ model ∷ []) =
-    if pointwise nat_eq command (codes "solve") then Some (about_model model solve)
-    else (if pointwise nat_eq command (codes "feasible") then Some (about_model model feasible) else None)
+request_of (command ∷ word ∷ []) =
+    if pointwise nat_eq command (codes "trial") then option_map about_trial (trial_number word)
+    else (if pointwise nat_eq command (codes "solve") then Some (about_model word solve)
+    else (if pointwise nat_eq command (codes "feasible") then Some (about_model word feasible) else None))
 request_of (command ∷ model ∷ other ∷ []) =
     if pointwise nat_eq command (codes "check") then Some (about_model model (check other))
     else (if pointwise nat_eq command (codes "curve") then Some (about_model model (show_curve other)) else None)
@@ -44,6 +49,7 @@ later_files question = []
 abbrev pub files_of : Option Request → List (List ℕ)
 files_of None = []
 files_of (Some (about_model model question)) = model ∷ later_files question
+files_of (Some (about_trial number)) = []
 
 -- a command of the code as what it asks for
 abbrev pub question_by : Task → Question
@@ -53,4 +59,5 @@ question_by Feasible = feasible
 question_by (Curve arc) = show_curve arc.now
 
 abbrev pub request_by : Command → Request
-request_by command = about_model command.model.now (question_by command.task)
+request_by (OnModel model task) = about_model model.now (question_by task)
+request_by (Trial number) = about_trial number

@@ -6,11 +6,12 @@ use Rattle.outside_io.specs.Files.{Files}
 use Rattle.outside_io.specs.Seen.{Seen, Outside, logged}
 use Rattle.mono_top.specs.Causes.{Asks}
 use Rattle.mono_top.specs.Reading.{IsModelFile}
-use Rattle.mono_top.specs.Request.{Request, about_model, Question, check, later_files, files_of}
+use Rattle.mono_top.specs.Request.{Request, about_model, about_trial, Question, check, later_files, files_of}
 
--- the later files are started only where the first one spells a model
+-- the later files are started only where the first one spells a model; words that name no file start none
 abbrev pub StartsInTurn : Option Request → Outside → Type 0
 StartsInTurn None outside = outside.started []
+StartsInTurn (Some (about_trial number)) outside = outside.started []
 StartsInTurn (Some (about_model model question)) outside =
     outside.started (model ∷ [])
     ⊎ outside.started (model ∷ later_files question) × ForSome outside.holds (λ files. IsModelFile files model)

@@ -1,11 +1,11 @@
 // From the words to the reply: all of the work, and no write.
-ghost use Rattle.std.specs.Prelude.{◌≡◌, None, Some, IfOk, IsErr};
+ghost use Rattle.std.specs.Prelude.{◌≡◌, [], Some, IfOk, IsErr};
 ghost use Rattle.outside_io.specs.Seen.{Moves, since};
 ghost use Rattle.mono_top.specs.Answer.{AnswersModel};
 ghost use Rattle.mono_top.specs.CountsReadings.{CountsReadings, ReadsCurves, ReadsWithin};
 ghost use Rattle.mono_top.specs.Due.{IsDue};
 ghost use Rattle.mono_top.specs.Replies.{Replies, RepliesWith};
-ghost use Rattle.mono_top.specs.Request.{asked, question_by, request_by};
+ghost use Rattle.mono_top.specs.Request.{about_model, asked, files_of, question_by};
 ghost use Rattle.mono_top.specs.Starts.{StartsFiles, StartsLater};
 
 use crate::check::check;
@@ -17,6 +17,7 @@ use crate::reply::Reply;
 use crate::show_curve::show_curve;
 use crate::solve::solve;
 use crate::status::Status;
+use crate::trial::trial;
 use model_text::Model;
 use mono_curve::Steps;
 use outside_io::Shelf;
@@ -36,7 +37,7 @@ pub(crate) fn reply_to<S: Shelf, L: Ledger>(
         IsDue (asked words.now) (since (S.seen shelf.old) (S.seen shelf.new)) reply.status) }
     ensures readings { CountsReadings (asked words.now)
         (S.seen shelf.old).holds steps.old steps.new }
-    ensures untouched { asked words.now ≡ None → shelf.new ≡ shelf.old }
+    ensures untouched { files_of (asked words.now) ≡ [] → shelf.new ≡ shelf.old }
     ensures starts { StartsFiles (asked words.now)
         (since (S.seen shelf.old) (S.seen shelf.new)) (IsErr result) }
     ensures moves { Moves (S.seen shelf.old) (S.seen shelf.new) }
@@ -54,13 +55,14 @@ fn do_command<S: Shelf, L: Ledger>(
         (since (S.seen shelf.old) (S.seen shelf.new)) result }
     ensures readings { CountsReadings (asked words.now)
         (S.seen shelf.old).holds steps.old steps.new }
-    ensures untouched { asked words.now ≡ None → shelf.new ≡ shelf.old }
+    ensures untouched { files_of (asked words.now) ≡ [] → shelf.new ≡ shelf.old }
     ensures starts { StartsFiles (asked words.now)
         (since (S.seen shelf.old) (S.seen shelf.new)) (IsErr result) }
     ensures moves { Moves (S.seen shelf.old) (S.seen shelf.new) }
 {
     match command_of(words) {
-        Some(command) => Ok(of_model(alloc, shelf, command, steps)?),
+        Some(Command::OnModel { model, task }) => Ok(of_model(alloc, shelf, model, task, steps)?),
+        Some(Command::Trial { number }) => Ok(trial(alloc, number, steps)?),
         None => Ok(Reply::refusal(Status::Usage, lines::usage())),
     }
 }
@@ -69,19 +71,20 @@ fn do_command<S: Shelf, L: Ledger>(
 fn of_model<S: Shelf, L: Ledger>(
     alloc: Global,
     shelf: &mut S,
-    command: Command,
+    name: &str,
+    task: Task,
     steps: &mut Steps<L>,
 ) -> Result<Reply, AllocError>
-    ensures replies { Replies (Some (request_by command.entry))
+    ensures replies { Replies (Some (about_model name.now (question_by task.entry)))
         (since (S.seen shelf.old) (S.seen shelf.new)) result }
-    ensures readings { ReadsWithin command.entry.model.now (question_by command.entry.task)
+    ensures readings { ReadsWithin name.now (question_by task.entry)
         (S.seen shelf.old).holds steps.old steps.new }
-    ensures starts { StartsFiles (Some (request_by command.entry))
+    ensures starts { StartsFiles (Some (about_model name.now (question_by task.entry)))
         (since (S.seen shelf.old) (S.seen shelf.new)) (IsErr result) }
     ensures moves { Moves (S.seen shelf.old) (S.seen shelf.new) }
 {
-    match fetch_model(alloc, shelf, command.model)? {
-        FetchedModel::Model(model) => Ok(answer(alloc, shelf, &model, command.task, steps)?),
+    match fetch_model(alloc, shelf, name)? {
+        FetchedModel::Model(model) => Ok(answer(alloc, shelf, &model, task, steps)?),
         FetchedModel::Refused(reply) => Ok(reply),
     }
 }

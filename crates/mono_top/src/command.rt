@@ -1,12 +1,15 @@
 // The words of a call, as a command.
 ghost use Rattle.std.specs.Prelude.{◌≡◌, ◌∷◌, [], option_map};
-ghost use Rattle.mono_top.specs.Request.{asked, request_of, request_by};
+ghost use Rattle.mono_top.specs.Request.{about_trial, asked, request_of, request_by};
+ghost use Rattle.mono_top.specs.TrialNumber.{trial_number};
 
-/// A command on a model file.
+use crate::trial_number::trial_number;
+
+/// What is asked for: a task on the model of a file, or the trial model of a number, which names no file.
 #[derive(Clone, Copy)]
-pub(crate) struct Command<'a> {
-    pub model: &'a str,
-    pub task: Task<'a>,
+pub(crate) enum Command<'a> {
+    OnModel { model: &'a str, task: Task<'a> },
+    Trial { number: u64 },
 }
 
 /// What is to be done once the model has been read.
@@ -23,16 +26,19 @@ pub(crate) fn command_of(words: &[String]) -> Option<Command<'_>>
     ensures { option_map request_by result ≡ asked words.now }
 {
     match words {
-        [command, model] => with_one(command.as_str(), model.as_str()),
+        [command, word] => with_one(command.as_str(), word.as_str()),
         [command, model, other] => with_two(command.as_str(), model.as_str(), other.as_str()),
         _ => None,
     }
 }
 
 /// The commands with one word.
-fn with_one<'a>(command: &str, model: &'a str) -> Option<Command<'a>>
-    ensures { option_map request_by result ≡ request_of (command.now ∷ model.now ∷ []) }
+fn with_one<'a>(command: &str, word: &'a str) -> Option<Command<'a>>
+    ensures { option_map request_by result ≡ request_of (command.now ∷ word.now ∷ []) }
 {
+    if command == "trial" {
+        return trial_of(word);
+    }
     let task = if command == "solve" {
         Task::Solve
     } else if command == "feasible" {
@@ -40,7 +46,16 @@ fn with_one<'a>(command: &str, model: &'a str) -> Option<Command<'a>>
     } else {
         return None;
     };
-    Some(Command { model, task })
+    Some(Command::OnModel { model: word, task })
+}
+
+fn trial_of(word: &str) -> Option<Command<'_>>
+    ensures { option_map request_by result ≡ option_map about_trial (trial_number word.now) }
+{
+    match trial_number(word) {
+        Some(number) => Some(Command::Trial { number }),
+        None => None,
+    }
 }
 
 /// The commands with two words.
@@ -54,5 +69,5 @@ fn with_two<'a>(command: &str, model: &'a str, other: &'a str) -> Option<Command
     } else {
         return None;
     };
-    Some(Command { model, task })
+    Some(Command::OnModel { model, task })
 }

@@ -12,6 +12,8 @@ mod show_curve;
 mod solve;
 mod status;
 mod top;
+mod trial;
+mod trial_number;
 mod verdict_line;
 
 pub use fetch::FILE_MOST;

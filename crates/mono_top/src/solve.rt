@@ -1,5 +1,7 @@
 // The command `solve MODEL`.
-ghost use Rattle.std.specs.Prelude.{◌≡◌};
+ghost use Rattle.std.specs.Prelude.{◌≡◌, IfOk};
+ghost use Rattle.theory.specs.Certificate.{IsValid};
+ghost use Rattle.theory.specs.Grounded.{grounded};
 ghost use Rattle.cert_text.specs.Shown.{shown};
 ghost use Rattle.mono_top.specs.Replies.{RepliesWith};
 ghost use Rattle.mono_top.specs.CountsReadings.{ReadsCurves};
@@ -24,13 +26,25 @@ pub(crate) fn solve<L: Ledger>(
     ensures answers { RepliesWith (IsCertified model.now.entries) result }
     ensures readings { ReadsCurves solve_question model.now.entries steps.old steps.new }
 {
-    let network = ground(alloc, model)?;
-    let certificate = kilter_solver::solve(alloc, &network, steps)?;
+    let certificate = certify(alloc, model, steps)?;
     let text = print_cert(alloc, model, &certificate)?;
     Ok(Reply {
         status: status_of(&certificate),
         text: Text::Made(text),
     })
+}
+
+/// A certificate that is valid for the model.
+pub(crate) fn certify<L: Ledger>(
+    alloc: Global,
+    model: &Model,
+    steps: &mut Steps<L>,
+) -> Result<Certificate, AllocError>
+    ensures valid { IfOk result (λ c. IsValid (grounded model.now.entries) (shown c)) }
+    ensures readings { ReadsCurves solve_question model.now.entries steps.old steps.new }
+{
+    let network = ground(alloc, model)?;
+    kilter_solver::solve(alloc, &network, steps)
 }
 
 /// The status for the kind of the certificate.

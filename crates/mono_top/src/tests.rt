@@ -31,6 +31,8 @@ pub(crate) const ORDINARY: &[u8] = b"network 1\nnode s 5\nnode t -5\narc a s t 0
 const CURVES: &[u8] =
     b"network 1\nnode s\nnode t\narc p s t 0 2 4 5 10\narc q s t 5\narc r s t -4 -1 +inf\narc w s t -inf 3 +inf\narc h s t 2 3 6 base 10\n";
 
+const TRIAL_1: &str = "nodes 200\narcs 1000\nkind optimal\nvalue -2365615\n";
+
 const UNSHAPED: &[u8] = b"network 1\nnode s\nnode t\narc a s t 0 2\n";
 
 /// One call and what comes of it. The source holds the file `a`, and the file `c` where a second text is given.
@@ -309,6 +311,47 @@ fn words_and_files(rt: HostRuntime) -> Result<(), Fail> {
             5,
             "model line 4: shape\n",
         ),
+    ];
+    for row in &rows {
+        compare(&rt, rt.alloc(), row)?;
+    }
+    Ok(())
+}
+
+/// A row of a trial, in which a call of the source would fail.
+fn tries(
+    name: &'static str,
+    words: &'static [&'static str],
+    code: u8,
+    written: &'static str,
+) -> Row {
+    plain(name, words, EMPTY, code, written).source_fails(&[0])
+}
+
+#[test]
+fn trials(rt: HostRuntime) -> Result<(), Fail> {
+    let rows = [
+        tries("the trial of 1", &["trial", "1"], 0, TRIAL_1),
+        tries(
+            "the trial of 2",
+            &["trial", "2"],
+            0,
+            "nodes 200\narcs 1000\nkind optimal\nvalue -2985251\n",
+        ),
+        tries(
+            "the greatest number",
+            &["trial", "18446744073709551615"],
+            0,
+            "nodes 200\narcs 1000\nkind optimal\nvalue ?\n",
+        ),
+        tries("one more", &["trial", "18446744073709551616"], 4, USAGE),
+        tries("20 digits", &["trial", "00000000000000000001"], 0, TRIAL_1),
+        tries("21 digits", &["trial", "000000000000000000001"], 4, USAGE),
+        tries("a sign", &["trial", "+1"], 4, USAGE),
+        tries("an empty word", &["trial", ""], 4, USAGE),
+        tries("no number", &["trial"], 4, USAGE),
+        tries("two numbers", &["trial", "1", "2"], 4, USAGE),
+        tries("the second write fails", &["trial", "1"], 8, "nod").sink_fails(&[1]),
     ];
     for row in &rows {
         compare(&rt, rt.alloc(), row)?;

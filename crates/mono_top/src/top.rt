@@ -1,12 +1,12 @@
 // The top call.
-ghost use Rattle.std.specs.Prelude.{◌≡◌, ◌≢◌, ◌⊎◌, ℕ, List, None, IsSome};
+ghost use Rattle.std.specs.Prelude.{◌≡◌, ◌≢◌, ◌⊎◌, ℕ, List, [], None, IsSome};
 ghost use Rattle.std.specs.Option.{ForSome};
 ghost use Rattle.theory.specs.Grounded.{Entries};
 ghost use Rattle.model_text.specs.declared.fault.FaultWord.{FaultWord as Fault};
 ghost use Rattle.outside_io.specs.Counts.{Rose, Counts};
 ghost use Rattle.outside_io.specs.Seen.{Moves, since};
 ghost use Rattle.mono_top.specs.Answer.{Answers};
-ghost use Rattle.mono_top.specs.Causes.{Asks, AsksFaulty, AsksToCheck, AsksInvalid, AsksUnknownArc, ComesAlways, ComesBy, IsAnswerable, IsUnhindered, GoesThrough};
+ghost use Rattle.mono_top.specs.Causes.{Asks, AsksFaulty, AsksToCheck, AsksInvalid, AsksTrial, AsksUnknownArc, ComesAlways, ComesBy, EndsTrial, IsAnswerable, IsUnhindered, GoesThrough};
 ghost use Rattle.mono_top.specs.CountsReadings.{CountsReadings};
 ghost use Rattle.mono_top.specs.Headline.{Concludes, ConcludesCheck, ConcludesFeasible};
 ghost use Rattle.mono_top.specs.Ending.{WritesDue, WritesPart};
@@ -52,6 +52,9 @@ pub fn run<S: Shelf, K: Sink, L: Ledger>(
     ensures feasible { IsUnhindered result → ForSome (S.seen shelf.old).holds (λ files. (m : Entries)
         → Asks files feasible m (asked words.now) → ConcludesFeasible m result) }
 
+    // A trial names no file, so that nothing of the source bears on it.
+    ensures trial { AsksTrial (asked words.now) → EndsTrial result }
+
     // When each refusal comes.
     ensures usage { result ≡ Status.Usage → asked words.now ≡ None }
     ensures usage_always { asked words.now ≡ None
@@ -91,7 +94,7 @@ pub fn run<S: Shelf, K: Sink, L: Ledger>(
         (since (S.seen shelf.old) (S.seen shelf.new)) (result ≡ Status.NoMemory) }
 
     // What stays.
-    ensures untouched { asked words.now ≡ None → shelf.new ≡ shelf.old }
+    ensures untouched { files_of (asked words.now) ≡ [] → shelf.new ≡ shelf.old }
     ensures moves { Moves (S.seen shelf.old) (S.seen shelf.new) }
     ensures sink_faults { Counts (K.faults out.old) (K.faults out.new) }
     ensures readings { CountsReadings (asked words.now)

@@ -65,7 +65,7 @@ fn append_words(out: &mut Vec<u8>, keyword: &[u8], word: &[u8]) -> Result<(), Al
     append_word(out, word)
 }
 
-fn kind_word(certificate: &Certificate) -> &'static [u8]
+pub(crate) fn kind_word(certificate: &Certificate) -> &'static [u8]
     ensures { result.now ≡ kind_word (shown certificate.now) }
 {
     match certificate {

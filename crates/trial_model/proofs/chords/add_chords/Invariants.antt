@@ -1,0 +1,5 @@
+use Rattle.trial_model.proofs.ArcSteps.{AreChordsSoFar}
+use Rattle.trial_model.proofs.chords.add_chords.Given as goal
+
+abbrev pub invariant-loop-position : goal.invariant-loop-position
+invariant-loop-position l = AreChordsSoFar l.initial.model.entries l.initial.draws.state l.position l.model.entries l.draws.state

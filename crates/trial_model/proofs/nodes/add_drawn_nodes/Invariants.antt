@@ -1,0 +1,5 @@
+use Rattle.trial_model.proofs.NodeSteps.{AreDrawn}
+use Rattle.trial_model.proofs.nodes.add_drawn_nodes.Given as goal
+
+abbrev pub invariant-loop-position : goal.invariant-loop-position
+invariant-loop-position l = AreDrawn l.initial.draws.state l.position l.model.entries l.draws.state l.sum
