@@ -1,0 +1,6 @@
+-- The tableau of a network and its two laws:
+pub mod Tableau
+-- Its value, the first one, and one pivot further:
+pub mod Table
+pub mod Pivoted
+pub mod First

@@ -1,0 +1,4 @@
+// Tucker tableaus.
+#![tactic(auto)]
+
+// starts
