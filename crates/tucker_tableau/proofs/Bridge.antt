@@ -15,7 +15,8 @@ use Rattle.theory.specs.Tucker.{HasArc, GoesOver, Leads, IsSpanningTree, IsCircu
 use Rattle.theory.proofs.Rings.{rings}
 use Rattle.theory.proofs.SumsBelow.{sum_below-same, sum_below-zero, sum_below-pick}
 use Rattle.tucker_tableau.specs.Tableau.{number, FlowLaw, Spans, IsSplit, IsLawful, IsTuckerTableau}
-use Rattle.tucker_tableau.proofs.Paths.{part, part-level, path, Path, Each-at, leads-way, level-leads}
+use Rattle.tucker_tableau.specs.Lead.{part}
+use Rattle.tucker_tableau.proofs.Paths.{part-level, path, Path, Each-at, leads-way, level-leads}
 use Rattle.tucker_tableau.proofs.Circuits.{uses, circuit_flow, uses-none, uses-passing, IsUnit, passing-unit, passing-step, passing-first, circuit_of, after}
 
 -- ---- the tree

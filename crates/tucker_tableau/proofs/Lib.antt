@@ -4,3 +4,6 @@ pub mod First
 pub mod Paths
 pub mod Circuits
 pub mod Bridge
+pub mod Cells
+pub mod Leading
+pub mod Led

@@ -12,10 +12,7 @@ use Rattle.theory.specs.Circuit.{step, begin_of, end_of}
 use Rattle.theory.specs.Tucker.{HasArc, Leads}
 use Rattle.theory.proofs.Sums.{Each-map}
 use Rattle.tucker_tableau.specs.Tableau.{number}
-
-abbrev pub part : Network → List ℕ → ℕ → ℕ
-part net [] v = v
-part net (r ∷ rest) v = cond (part net rest v == part net rest (head net r)) (part net rest (tail net r)) (part net rest v)
+use Rattle.tucker_tableau.specs.Lead.{part}
 
 part-hit : (net : Network) (r : ℕ) (rest : List ℕ) (v : ℕ) → part net rest v ≡ part net rest (head net r) → part net (r ∷ rest) v ≡ part net rest (tail net r)
 part-hit net r rest v e = rw (eq-eqb (part net rest v) (part net rest (head net r)) e)
@@ -26,7 +23,7 @@ part-miss net r rest v ne = rw (ne_eqb (part net rest v) (part net rest (head ne
 pub part-same : (net : Network) (r : ℕ) (rest : List ℕ) (v w : ℕ) → part net rest v ≡ part net rest w → part net (r ∷ rest) v ≡ part net (r ∷ rest) w
 part-same net r rest v w e = ap (λ n. cond (n == part net rest (head net r)) (part net rest (tail net r)) n) e
 
-part-tail : (net : Network) (r : ℕ) (rest : List ℕ) → part net (r ∷ rest) (tail net r) ≡ part net rest (tail net r)
+pub part-tail : (net : Network) (r : ℕ) (rest : List ℕ) → part net (r ∷ rest) (tail net r) ≡ part net rest (tail net r)
 part-tail net r rest =
     ⊎_elim (λ (e : part net rest (tail net r) ≡ part net rest (head net r)). part-hit net r rest (tail net r) e)
     (λ (ne : part net rest (tail net r) ≡ part net rest (head net r) → ⊥). part-miss net r rest (tail net r) ne)

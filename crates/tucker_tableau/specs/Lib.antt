@@ -4,3 +4,7 @@ pub mod Tableau
 pub mod Table
 pub mod Pivoted
 pub mod First
+-- Lists of entries while they are written:
+pub mod Cells
+-- The tree that lead leaves:
+pub mod Lead
