@@ -86,6 +86,7 @@ split_pivoted net rows columns r s split row column =
         (each_set columns s out (λ j k. into ≢ k) column (λ e. row_among r row (sym e)) (λ j l ne e. differ_either columns split.columns_differ s j column l (λ f. ne (sym f)) e) j m)
         (λ i l ne. each_set columns s out (λ j k. number rows i ≢ k) column (differ_either rows split.rows_differ i r l row ne) (λ j l2 ne2. split.apart i j l l2) j m)
         i l;
+      size = rw (length-set rows r into, length-set columns s out) split.size;
       every = λ k l. ⊎_elim
         (λ (h : HasArc rows k).
         ⊎_elim (λ (e : h.place ≡ r). inr (has_new columns s out k column (ap (number rows) (sym e) ∙ h.is)))

@@ -1,6 +1,6 @@
 pub mod Pivots
 pub mod Exchange
-pub mod First
+pub mod Ground
 pub mod Paths
 pub mod Circuits
 pub mod Bridge

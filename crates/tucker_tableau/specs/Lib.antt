@@ -8,3 +8,7 @@ pub mod First
 pub mod Cells
 -- The tree that lead leaves:
 pub mod Lead
+-- What every tableau keeps:
+pub mod Kept
+pub mod Places
+pub mod Leading

@@ -31,6 +31,7 @@ pub record IsSplit (net : Network) (rows columns : List ℕ) : Type 0 where
   pub rows_differ : (i k : ℕ) → i < k → k < length rows → number rows i ≢ number rows k
   pub columns_differ : (j k : ℕ) → j < k → k < length columns → number columns j ≢ number columns k
   pub apart : (i j : ℕ) → i < length rows → j < length columns → number rows i ≢ number columns j
+  pub size : length rows + length columns ≡ length net.arcs
   pub every : (k : ℕ) → k < length net.arcs → HasArc rows k ⊎ HasArc columns k
 
 pub record IsTuckerTableau (net : Network) (rows columns : List ℕ) (a : ℕ → ℕ → ℤ) : Type 0 where

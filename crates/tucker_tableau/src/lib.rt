@@ -3,3 +3,12 @@
 #![tactic(auto)]
 
 mod entries;
+mod fault;
+mod first;
+mod lead;
+mod pivot;
+mod places;
+mod tableau;
+
+pub use fault::{TabFault, ZeroEntry};
+pub use tableau::Tableau;

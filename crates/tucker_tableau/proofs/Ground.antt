@@ -84,6 +84,7 @@ first_lawful net table good ground first =
         rows_differ = λ i k l h same. let e = row i (omega arith) in let f = row k h in omega arith;
         columns_differ = λ i k l h same. let e = column i (omega arith) in let f = column k h in omega arith;
         apart = λ i j l h same. let e = row i l in let f = column j h in omega arith;
+        size = first.column_count;
         every = λ k l. ⊎_elim
           (λ (below : k < n). inl (record { place = k; there = below; is = row k below }))
           (λ (above : n ≤ k).
