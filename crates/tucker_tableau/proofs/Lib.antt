@@ -7,3 +7,4 @@ pub mod Bridge
 pub mod Cells
 pub mod Leading
 pub mod Led
+pub mod Tables

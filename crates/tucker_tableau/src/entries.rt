@@ -113,3 +113,14 @@ pub fn mark(table: &mut [i8], width: usize, node: usize, column: usize, value: i
         table[(node - 1) * width + column] = value;
     }
 }
+
+/// One entry.
+pub fn at(table: &[i8], width: usize, i: usize, j: usize) -> i8
+    requires row { i * width + width ≤ length table.now }
+    requires column { j < width }
+    requires unit { IsUnit (cell table.now width i j) }
+    ensures value { result ≡ cell table.now width i j }
+    ensures unit { IsUnit result }
+{
+    table[i * width + j]
+}

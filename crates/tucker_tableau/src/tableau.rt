@@ -4,6 +4,7 @@ ghost use Rattle.tucker_tableau.specs.Table.{IsTableauOf};
 ghost use Rattle.tucker_tableau.specs.First.{IsFirst};
 ghost use Rattle.tucker_tableau.specs.Kept.{IsTooBig, tableau_arcs_most};
 
+use crate::entries::at;
 use crate::fault::TabFault;
 use crate::first::{numbers, star_entries};
 use crate::places::place_of;
@@ -109,7 +110,7 @@ impl Tableau {
         ensures value { result ≡ entry self.now i j }
         ensures unit { IsUnit result }
     {
-        self.entries[i * self.columns.len() + j]
+        at(self.entries.as_slice(), self.columns.len(), i, j)
     }
 }
 
