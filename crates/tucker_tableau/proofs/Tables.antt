@@ -1,18 +1,22 @@
 -- Whole tables: what a pivot makes of one, and one arc further in `lead`.
-use Rattle.std.proofs.Common.{◌≡◌, ◌≢◌, ◌⊎◌, ◌↔◌, ℕ, zero, suc, ◌+◌, ◌*◌, ◌/◌, ◌%◌, ◌<◌, ◌≤◌, ℤ, pos, negsuc, ◌*ℤ◌, List, length, set, get_or, refl, sym, ap, ap₂, ◌∙◌, subst, ⊎_elim, inl, inr, length-set, arith}
+use Rattle.std.proofs.Common.{◌≡◌, ◌≢◌, ◌⊎◌, ◌↔◌, ℕ, zero, suc, ◌+◌, ◌*◌, ◌/◌, ◌%◌, ◌<◌, ◌≤◌, ◌-◌, ◌==◌, nat_lt, Bool, true, false, cond, ℤ, pos, negsuc, ◌*ℤ◌, ◌-ℤ◌, List, length, set, get_or, refl, sym, ap, ap₂, ◌∙◌, subst, ⊎_elim, inl, inr, length-set, arith}
 use Rattle.std.proofs.lemmas.Int.{ints}
-use Rattle.std.proofs.lemmas.Bool.{cases_lt}
+use Rattle.std.proofs.lemmas.Bool.{cases_lt, lt-ltb}
 use Rattle.std.proofs.lemmas.List.{same_lists, get_or_default}
 use Rattle.std.proofs.lemmas.Nat.{row_fits, div_below}
 use Rattle.theory.specs.Limits.{IsWithin}
-use Rattle.theory.specs.Network.{Network, IsNetwork}
+use Rattle.theory.specs.Sums.{counted}
+use Rattle.theory.specs.declared.network.Arc.{Arc}
+use Rattle.theory.specs.Network.{Network, IsNetwork, arc_at}
 use Rattle.theory.specs.Tucker.{HasArc}
+use Rattle.net_incidence.specs.Graph.{Graph, network, bare}
+use Rattle.ground_net.specs.Ground.{IsGrounded}
 use Rattle.tucker_tableau.specs.Tableau.{number, IsLawful}
 use Rattle.tucker_tableau.specs.Table.{Table, cell, entry, IsTableauOf}
 use Rattle.tucker_tableau.specs.Pivoted.{pivoted, IsPivoted}
 use Rattle.tucker_tableau.specs.First.{star, IsFirst}
-use Rattle.tucker_tableau.specs.Cells.{IsTablePivoted}
-use Rattle.tucker_tableau.specs.Kept.{tableau_arcs_most, IsLawfulTable, IsKept}
+use Rattle.tucker_tableau.specs.Cells.{IsTablePivoted, IsStar}
+use Rattle.tucker_tableau.specs.Kept.{tableau_arcs_most, IsCounting, IsLawfulTable, IsKept}
 use Rattle.tucker_tableau.specs.Places.{IsNowhere, IsAt}
 use Rattle.tucker_tableau.specs.Lead.{IsModelNetwork, IsLed, NoGround, IsGreatest, IsLedTo, IsTaken}
 use Rattle.tucker_tableau.specs.Leading.{IsLookedAt, KeepsTableau, IsLeading}
@@ -232,3 +236,50 @@ leading-all old now k end state net good model t =
     let e : k ≡ length net.arcs = omega arith in
     let P : ℕ → Type 0 = λ m. IsLedTo net (length old.rows) now.rows m in
     led-all net (length old.rows) now.rows now.columns (entry now) model lawful (subst P e (state.led net good model t))
+
+-- the lists that the code makes
+pub first_is : (net : Network) (h : Graph) (rows columns : List ℕ) (entries : List ℤ) (n m : ℕ) → network h net.curves ≡ net → IsGrounded net
+    → n ≡ h.nodes - 1 → m ≡ length h.arcs - n → IsCounting 0 n rows → IsCounting n m columns → IsStar (bare h) n m entries m
+    → IsFirst net (record { rows = rows; columns = columns; entries = entries })
+first_is net h rows columns entries n m same ground rows_count columns_count counted_rows counted_columns star_is =
+    let nodes : h.nodes ≡ net.nodes = ap (λ g. g.nodes) same in
+    let arcs : h.arcs ≡ net.arcs = ap (λ g. g.arcs) same in
+    let arc_count : length h.arcs ≡ length net.arcs = ap length arcs in
+    let some = ground.ground_there in
+    let each = ground.arc_each in
+    let high = counted_rows.size in
+    let wide = counted_columns.size in
+    record {
+      row_count = omega arith;
+      column_count = omega arith;
+      rows = λ i l. (let e = counted_rows.numbers i (omega arith) in omega arith);
+      columns = λ j l. (let e = counted_columns.numbers j (omega arith) in omega arith);
+      entries = λ i j l k.
+        ap (λ w. cell entries w i j) wide ∙ star_is.cells i j (omega arith) (omega arith) ∙ whole (nat_lt j m) (lt-ltb j m (omega arith)) n i j
+        ∙ ap₂ (λ (list : List Arc) (count : ℕ). counted ((arc_at list (count + j)).from.0 == i + 1) (pos 1) -ℤ counted ((arc_at list (count + j)).to.0 == i + 1) (pos 1)) arcs (sym high);
+    }
+  where
+    whole : (b : Bool) → b ≡ true → (n i j : ℕ) → (cond b (star (bare h) n i j) (pos 0)) ≡ star (bare h) n i j
+    whole true e n i j = refl
+    whole false e n i j = cc
+
+pub grounded_at : (net : Network) (n : ℕ) → IsGrounded net → n + 1 ≡ net.nodes → IsGroundedAt net n
+grounded_at net n ground count =
+    record { nodes = count; tails = λ i l. ground.tails i (omega arith); heads = λ i l. ground.heads i (omega arith) }
+
+pub first_kept : (net : Network) (table : Table) (n m : ℕ) → IsGrounded net → length net.arcs ≤ tableau_arcs_most → IsFirst net table
+    → length table.rows ≡ n → length table.columns ≡ m → length table.entries ≡ n * m → IsKept table
+first_kept net table n m ground few first rows columns size =
+    let count = first.column_count in
+    record {
+      size = size ∙ ap₂ (λ h w. h * w) (sym rows) (sym columns);
+      few = omega arith;
+      net = net;
+      good = ground.is_network;
+      lawful = first_tableau net table ground.is_network (grounded_at net (length table.rows) ground first.row_count) first;
+    }
+
+pub first_of : (net : Network) (table : Table) → IsGrounded net → IsFirst net table → IsTableauOf net table
+first_of net table ground first =
+    tucker_tableau net table.rows table.columns (entry table) ground.is_network
+    (first_tableau net table ground.is_network (grounded_at net (length table.rows) ground first.row_count) first)
