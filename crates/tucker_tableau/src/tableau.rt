@@ -65,7 +65,8 @@ impl Tableau {
     }
 
     pub fn rows(&self) -> usize
-        ensures { result ≡ length self.now.rows }
+        ensures count { result ≡ length self.now.rows }
+        ensures few { length self.now.rows + length self.now.columns ≤ tableau_arcs_most }
     {
         self.rows.len()
     }
