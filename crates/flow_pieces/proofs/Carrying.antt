@@ -99,12 +99,20 @@ carried-more weight walk k j there =
 -- ---- taken off step by step
 
 -- an arc is as it was until its step comes
-pub untouched : (weight : ℤ) (walk : List Step) (k : ℕ) → ArcsDiffer walk → k < length walk
+untouched : (weight : ℤ) (walk : List Step) (k : ℕ) → ArcsDiffer walk → k < length walk
     → carried weight (take k walk) (step walk k).arc.0 ≡ pos 0
 untouched weight walk k differ there =
     let short : length (take k walk) ≡ k = length-take-le k walk (omega arith) in
     carried-off weight (take k walk) (step walk k).arc.0
     (λ i l e. let before : i < k = omega arith in differ i k before there (ap (λ (s : Step). s.arc.0) (sym (get_or-take k walk i _ before)) ∙ e))
+
+pub untouched-now : (weight : ℤ) (walk : List Step) (k : ℕ) (rest now : List ℤ) → ArcsDiffer walk → k < length walk
+    → ((j : ℕ) → «at» now j ≡ «at» rest j -ℤ carried weight (take k walk) j)
+    → «at» now (step walk k).arc.0 ≡ «at» rest (step walk k).arc.0
+untouched-now weight walk k rest now differ there so_far =
+    let none = untouched weight walk k differ there in
+    let is = so_far (step walk k).arc.0 in
+    omega (arith, ints)
 
 pub taken-more : (weight : ℤ) (walk : List Step) (k : ℕ) (rest now : List ℤ) (z : ℤ) → k < length walk
     → (step walk k).arc.0 < length now

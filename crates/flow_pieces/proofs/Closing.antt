@@ -43,7 +43,6 @@ pub is_round : (g : Graph) (c : Course) (place : ℕ) → IsCourse g c → place
 is_round g c place is there meets =
     let net = bare g in
     let long = length-drop place c.walk in
-    let at_place = λ (k : ℕ). get_or-drop place c.walk k _ in
     let nodes = begins-differ net c.walk c.places is.placed in
     let arcs = arcs-differ net («at» c.rest) c.walk c.places is.trail is.placed in
     let old : (k : ℕ) → step (drop place c.walk) k ≡ step c.walk (place + k) = λ k. get_or-drop place c.walk k _ in
@@ -145,11 +144,14 @@ left-more net walk places place k b differ after there is node being =
           (λ (here : i ≡ b).
           let none : None ≡ Some n = sym (get_or-set_same places b None None (omega arith)) ∙ ap (place_at (set places b None)) (sym here) ∙ at_i in cc)
           (λ (other : i ≢ b).
-          let old = being.only i n (sym (get_or-set_other places b i None None other) ∙ at_i) in
-          (old.0, old.1, ⊎_elim (λ (before : n < place). inl before)
-          (λ (on : k ≤ n). ⊎_elim
-          (λ (same : n ≡ k). absurd (other (sym old.1 ∙ ap (λ m. begin_of net (step walk m)) same ∙ sym is)))
-          (λ (later : n ≢ k). inr (omega arith)) (cases_eq n k)) old.2))
+          let old = being.only i n (sym (get_or-set_other places b i None None other) ∙ at_i) in (
+            old.0,
+            old.1,
+            ⊎_elim (λ (before : n < place). inl before)
+                (λ (on : k ≤ n). ⊎_elim
+                (λ (same : n ≡ k). absurd (other (sym old.1 ∙ ap (λ m. begin_of net (step walk m)) same ∙ sym is)))
+                (λ (later : n ≢ k). inr (omega arith)) (cases_eq n k)) old.2,
+          ))
           (cases_eq i b);
     }
 

@@ -24,7 +24,7 @@ use Rattle.flow_pieces.specs.Course.{Course, IsTrail, EndsAt, place_at, ArePlace
 
 -- ---- ends of steps
 
-begin-there : (g : Graph) (s : Step) → s.arc.0 < length g.arcs → begin_of (bare g) s < g.nodes
+pub begin-there : (g : Graph) (s : Step) → s.arc.0 < length g.arcs → begin_of (bare g) s < g.nodes
 begin-there g s there = by_way (tail (bare g) s.arc.0) (head (bare g) s.arc.0) s.forward (g.good.tails s.arc.0 there) (g.good.heads s.arc.0 there)
   where
     by_way : (t h : ℕ) (forward : Bool) → t < g.nodes → h < g.nodes → (if forward then t else h) < g.nodes

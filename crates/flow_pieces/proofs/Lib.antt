@@ -4,3 +4,4 @@ pub mod Falling
 pub mod Turning
 pub mod Going
 pub mod Closing
+pub mod Splits

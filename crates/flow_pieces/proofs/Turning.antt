@@ -42,7 +42,7 @@ stood turn walk k in_walk there =
       place = k - (length walk - turn);
       there = omega arith;
       is = get_or-append_right (drop turn walk) (take turn walk) (length walk - turn) k _ back (omega arith)
-      ∙ get_or-take turn walk (k - (length walk - turn)) _ (omega arith);
+          ∙ get_or-take turn walk (k - (length walk - turn)) _ (omega arith);
       lap = inr (omega arith);
     })
     (cases_lt (turn + k) (length walk))
@@ -59,14 +59,14 @@ stands turn walk i in_walk there =
       k,
       omega arith,
       get_or-append_right (drop turn walk) (take turn walk) (length walk - turn) k _ back (omega arith)
-      ∙ ap (step (take turn walk)) same ∙ get_or-take turn walk i _ before,
+          ∙ ap (step (take turn walk)) same ∙ get_or-take turn walk i _ before,
     ))
     (λ (after : turn ≤ i).
     let same : turn + (i - turn) ≡ i = omega arith in (
       i - turn,
       omega arith,
       get_or_append_left (drop turn walk) (take turn walk) _ (i - turn) (omega arith)
-      ∙ get_or-drop turn walk (i - turn) _ ∙ ap (step walk) same,
+          ∙ get_or-drop turn walk (i - turn) _ ∙ ap (step walk) same,
     ))
     (cases_lt i turn)
 

@@ -89,13 +89,14 @@ fn turned(alloc: Global, circuit: &[Step], turn: usize) -> Result<Vec<Step>, All
 }
 
 /// Takes the weight off the arcs of the circuit.
-pub(crate) fn take_off(rest: &mut [i64], circuit: &[Step], weight: i64)
-    requires numbers { AreNumbers (length rest.old) rest.old }
-    requires there { (k : ℕ) → k < length circuit.now → (step circuit.now k).arc.0 < length rest.old }
+pub(crate) fn take_off(rest: &mut Vec<i64>, circuit: &[Step], weight: i64)
+    requires numbers { AreNumbers (length rest.old.items) rest.old.items }
+    requires there { (k : ℕ) → k < length circuit.now → (step circuit.now k).arc.0 < length rest.old.items }
     requires differ { (i k : ℕ) → i < k → k < length circuit.now → (step circuit.now i).arc.0 ≢ (step circuit.now k).arc.0 }
     requires some { pos 0 ≤ℤ weight }
-    requires most { (k : ℕ) → k < length circuit.now → weight ≤ℤ flow_along («at» rest.old) (step circuit.now k) }
-    ensures { (j : ℕ) → «at» rest.new j ≡ («at» rest.old j -ℤ carried weight circuit.now j) }
+    requires most { (k : ℕ) → k < length circuit.now → weight ≤ℤ flow_along («at» rest.old.items) (step circuit.now k) }
+    ensures same { length rest.new.items ≡ length rest.old.items }
+    ensures less { (j : ℕ) → «at» rest.new.items j ≡ («at» rest.old.items j -ℤ carried weight circuit.now j) }
 {
     for step in circuit {
         let place = step.arc.0 as usize;
@@ -110,5 +111,9 @@ fn reduced(flow: i64, forward: bool, weight: i64) -> i64
     requires most { weight ≤ℤ (if forward then flow else (neg_ℤ flow)) }
     ensures { result ≡ flow -ℤ directed weight forward }
 {
-    if forward { flow - weight } else { flow + weight }
+    if forward {
+        flow - weight
+    } else {
+        flow + weight
+    }
 }

@@ -1,7 +1,4 @@
 // The pieces of a flow, as they are kept and shown.
-ghost use Rattle.std.specs.Prelude.{◌≡◌, ◌<◌, [], ◌∷◌, ◌++◌, length, map, OnOk, pos};
-ghost use Rattle.theory.specs.Circuit.{step};
-
 use std::alloc::{AllocError, Global};
 use std::marker::Model;
 use theory::Step;
@@ -20,7 +17,7 @@ pub struct PieceList {
 }
 
 impl Model for PieceList {
-    ghost use Rattle.std.specs.Prelude.{List};
+    ghost use Rattle.std.specs.Prelude.{List, map};
     ghost use Rattle.flow_pieces.specs.Pieces.{FlowPiece};
     ghost use Rattle.flow_pieces.specs.Splitting.{piece_of};
 
@@ -30,6 +27,8 @@ impl Model for PieceList {
 }
 
 impl PieceList {
+    ghost use Rattle.std.specs.Prelude.{◌≡◌, ◌<◌, [], ◌∷◌, ◌++◌, length, OnOk};
+    ghost use Rattle.theory.specs.Circuit.{step};
     ghost use Rattle.flow_pieces.specs.Pieces.{piece_at};
     ghost use Rattle.flow_pieces.specs.Splitting.{piece_of};
 

@@ -132,7 +132,11 @@ fn names_the_first_node(rt: HostRuntime) -> Result<(), Fail> {
         match pieces(rt.alloc(), &net, flows) {
             Ok(_) => assert!(rt; false, "for {flows:?}"),
             Err(fault) => {
-                assert_eq!(rt; fault, PieceFault::NotConserved(NodeId(want)), "for {flows:?}");
+                assert_eq!(rt;
+                    fault,
+                    PieceFault::NotConserved(NodeId(want)),
+                    "for {flows:?}"
+                );
             }
         }
     }

@@ -196,7 +196,7 @@ impl Walker {
     {
         let circuit = &self.walk[place..];
         let piece = piece_round(alloc, net, self.rest.as_slice(), circuit)?;
-        take_off(self.rest.as_mut_slice(), circuit, piece.weight);
+        take_off(&mut self.rest, circuit, piece.weight);
         self.cut(net, place);
         Ok(piece)
     }
