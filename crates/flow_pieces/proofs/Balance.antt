@@ -6,7 +6,7 @@ use Rattle.theory.specs.declared.network.Step.{Step}
 use Rattle.theory.specs.Sums.{sum_below, counted}
 use Rattle.theory.specs.Network.{Network, tail, head}
 use Rattle.theory.specs.Conserved.{IsConserved, outflow, inflow, divergence}
-use Rattle.theory.specs.Circuit.{begin_of, end_of, IsCircuit, WalkIsThere}
+use Rattle.theory.specs.Circuit.{IsCircuit, WalkIsThere}
 use Rattle.theory.proofs.Rings.{rings}
 use Rattle.theory.proofs.SumsBelow.{sum_below-same, sum_below-zero, sum_below-add, sum_below-sub, sum_below-pick, counted-zero, counted-add}
 use Rattle.theory.proofs.Refusals.{around}

@@ -1,6 +1,6 @@
 -- The walk from the place on where it meets itself is a circuit. Taken off, it leaves a course: the arcs of the walk before that
 -- place are not among its arcs, and elsewhere nothing has flow left along it that had none before.
-use Rattle.std.proofs.Common.{◌≡◌, ◌≢◌, ◌⊎◌, ℕ, ◌+◌, ◌-◌, ◌<◌, ◌≤◌, ℤ, pos, ◌-ℤ◌, neg_ℤ, ◌≤ℤ◌, ◌<ℤ◌, Bool, true, false, if◌then◌else◌, Option, Some, None, List, take, drop, length, set, refl, sym, ap, ◌∙◌, subst, inl, inr, ⊎_elim, arith}
+use Rattle.std.proofs.Common.{◌≡◌, ◌≢◌, ◌⊎◌, ℕ, ◌+◌, ◌<◌, ◌≤◌, ℤ, pos, ◌-ℤ◌, neg_ℤ, ◌<ℤ◌, Bool, true, false, if◌then◌else◌, Option, Some, None, List, take, drop, length, set, sym, ap, ◌∙◌, subst, inl, inr, ⊎_elim, arith}
 use mathlib.Core.Path.{fun_ext}
 use Rattle.std.proofs.lemmas.Int.{ints}
 use Rattle.std.proofs.lemmas.Bool.{cases_lt, cases_eq}
@@ -8,7 +8,7 @@ use Rattle.std.proofs.lemmas.List.{length-drop, length-take-le, get_or-take, get
 use Rattle.theory.specs.declared.network.Step.{Step}
 use Rattle.theory.specs.Network.{Network, «at», tail, head}
 use Rattle.theory.specs.Conserved.{IsConserved}
-use Rattle.theory.specs.Circuit.{step, begin_of, end_of, IsCircuit}
+use Rattle.theory.specs.Circuit.{step, begin_of, end_of}
 use Rattle.net_incidence.specs.Graph.{Graph, bare}
 use Rattle.net_incidence.specs.Incidence.{incident_steps}
 use Rattle.net_incidence.specs.FlowAlong.{flow_along}

@@ -1,19 +1,19 @@
 -- The law of pieces. On each arc what a piece leaves is between 0 and what there was: the weight is no more than the arc has,
 -- and it is taken off in the direction of the flow. So what goes along the rest goes along the flow, and an arc that carries
 -- nothing stays so; and the arc where the weight was met carries nothing from then on, which no two pieces have in common.
-use Rattle.std.proofs.Common.{◌≡◌, ◌≢◌, ℕ, zero, suc, ◌+◌, ◌<◌, ◌≤◌, ℤ, pos, negsuc, ◌+ℤ◌, ◌-ℤ◌, neg_ℤ, ◌≤ℤ◌, ◌<ℤ◌, Bool, true, false, if◌then◌else◌, List, [], ◌∷◌, length, refl, sym, ap, ◌∙◌, subst, ⊎_elim, arith}
+use Rattle.std.proofs.Common.{◌≡◌, ◌≢◌, ℕ, zero, suc, ◌<◌, ◌≤◌, ℤ, pos, negsuc, ◌-ℤ◌, neg_ℤ, ◌≤ℤ◌, ◌<ℤ◌, Bool, true, false, if◌then◌else◌, List, [], ◌∷◌, length, refl, sym, ap, subst, ⊎_elim, arith}
 use Rattle.std.proofs.lemmas.Int.{ints, by_lt_z}
 use Rattle.std.proofs.lemmas.Bool.{cases_lt}
 use Rattle.theory.specs.declared.network.Step.{Step}
-use Rattle.theory.specs.Sums.{total_below, Each}
+use Rattle.theory.specs.Sums.{total_below}
 use Rattle.theory.specs.Limits.{IsWithin}
 use Rattle.theory.specs.Network.{Network}
 use Rattle.theory.specs.Circuit.{step}
 use Rattle.theory.proofs.Sums.{Each-map}
 use Rattle.theory.proofs.Counting.{total_below-order}
 use Rattle.net_incidence.specs.FlowAlong.{flow_along}
-use Rattle.flow_pieces.specs.Pieces.{FlowPiece, directed, carried, left_by, GoesAlong, IsLeastAlong, IsPiece, ArePieces}
-use Rattle.flow_pieces.specs.PiecesLaws.{carried_together, carries, count_carrying, IsCircuitOfFlow, IsSumOfCircuits, PiecesLaw}
+use Rattle.flow_pieces.specs.Pieces.{FlowPiece, directed, carried, left_by, GoesAlong, IsLeastAlong, IsPiece}
+use Rattle.flow_pieces.specs.PiecesLaws.{carries, count_carrying, IsCircuitOfFlow, IsSumOfCircuits, PiecesLaw}
 use Rattle.flow_pieces.proofs.Carrying.{ArcsDiffer, GoesOver, GoesOff, over_or_off, carried-off, carried-over}
 use Rattle.flow_pieces.proofs.Balance.{conserved-back, nothing-conserved}
 

@@ -1,14 +1,13 @@
 -- How the walk goes on. Some step at the node where it ends has flow left along it: the step back over the walk's last arc has
 -- some against it, and the flows along all steps at the node add up to 0. The walk has room for it as long as it meets none of
 -- its nodes, since then there are more nodes than it has steps.
-use Rattle.std.proofs.Common.{◌≡◌, ◌≢◌, ℕ, zero, suc, ◌+◌, ◌-◌, ◌<◌, ◌≤◌, ℤ, pos, neg_ℤ, ◌≤ℤ◌, ◌<ℤ◌, Bool, true, false, not, if◌then◌else◌, Option, Some, None, List, [], ◌∷◌, ◌++◌, length, set, refl, sym, ap, ◌∙◌, subst, ⊎_elim, length-append, arith}
+use Rattle.std.proofs.Common.{◌≡◌, ◌≢◌, ℕ, ◌+◌, ◌-◌, ◌<◌, ◌≤◌, ℤ, pos, neg_ℤ, ◌<ℤ◌, Bool, true, false, not, if◌then◌else◌, Option, Some, None, List, [], ◌∷◌, ◌++◌, length, set, refl, sym, ap, ◌∙◌, subst, ⊎_elim, length-append, arith}
 use Rattle.std.specs.Prelude.{slice_index}
 use Rattle.std.proofs.lemmas.Int.{ints}
 use Rattle.std.proofs.lemmas.Bool.{cases_lt, cases_eq}
 use Rattle.std.proofs.lemmas.List.{length-set, get_or-set_same, get_or-set_other}
 use Rattle.theory.specs.declared.network.Step.{Step}
 use Rattle.theory.specs.Network.{Network, «at», tail, head}
-use Rattle.theory.specs.Sums.{sum_below}
 use Rattle.theory.specs.Circuit.{step, begin_of, end_of, WalkIsThere}
 use Rattle.theory.proofs.Counting.{fewer-without}
 use Rattle.theory.proofs.SumsBelow.{sum_below-zero, sum_below-equal_terms}
@@ -19,8 +18,7 @@ use Rattle.net_incidence.specs.Incidence.{over, incident_steps}
 use Rattle.net_incidence.specs.FlowAlong.{flow_along}
 use Rattle.net_incidence.proofs.Divergence.{divergence-places}
 use Rattle.net_incidence.proofs.Degrees.{incident-stands}
-use Rattle.flow_pieces.specs.Pieces.{GoesAlong}
-use Rattle.flow_pieces.specs.Course.{Course, IsTrail, EndsAt, place_at, ArePlaces, AreDry, AreLooked, IsCourse}
+use Rattle.flow_pieces.specs.Course.{Course, IsTrail, EndsAt, place_at, ArePlaces, AreDry, IsCourse}
 
 -- ---- ends of steps
 

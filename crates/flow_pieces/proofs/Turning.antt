@@ -1,14 +1,14 @@
 -- A circuit begun at another of its steps is a circuit. Step k of the turned walk stood at place turn + k, or as many places
 -- before that as there are steps; so different places come from different places, and the next place from the next one, where
 -- the first place counts as the one after the last.
-use Rattle.std.proofs.Common.{◌≡◌, ◌≢◌, ◌⊎◌, ℕ, zero, suc, ◌+◌, ◌-◌, ◌<◌, ◌≤◌, ℤ, pos, ◌≤ℤ◌, ◌<ℤ◌, List, [], ◌∷◌, ◌++◌, take, drop, length, refl, sym, ap, ◌∙◌, subst, inl, inr, ⊎_elim, length-append, arith}
+use Rattle.std.proofs.Common.{◌≡◌, ◌≢◌, ◌⊎◌, ℕ, ◌+◌, ◌-◌, ◌<◌, ◌≤◌, ℤ, pos, ◌≤ℤ◌, ◌<ℤ◌, List, ◌++◌, take, drop, length, refl, sym, ap, ◌∙◌, subst, inl, inr, ⊎_elim, length-append, arith}
 use Rattle.std.proofs.lemmas.Bool.{cases_lt, cases_order}
 use Rattle.std.proofs.lemmas.List.{length-take, length-drop, get_or-take, get_or-drop, get_or_append_left, get_or-append_right}
 use Rattle.theory.specs.declared.network.Step.{Step}
 use Rattle.theory.specs.Network.{Network}
 use Rattle.theory.specs.Circuit.{step, begin_of, end_of, IsCircuit}
 use Rattle.net_incidence.specs.FlowAlong.{flow_along}
-use Rattle.flow_pieces.specs.Pieces.{FlowPiece, IsLeastAlong, IsPiece}
+use Rattle.flow_pieces.specs.Pieces.{IsLeastAlong, IsPiece}
 use Rattle.flow_pieces.specs.Course.{IsRound}
 
 abbrev pub turned : ℕ → List Step → List Step

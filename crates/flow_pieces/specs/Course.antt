@@ -1,6 +1,6 @@
 -- A course: what is left of a flow, a walk along it that begins from no node twice, and what is known of each node: the place
 -- of the step that begins there, and how many of its steps have nothing left along them.
-use Rattle.std.specs.Prelude.{◌≡◌, ℕ, ◌+◌, ◌<◌, ◌≤◌, ℤ, pos, ◌≤ℤ◌, Option, Some, None, List, length, slice_index_or, slice_index}
+use Rattle.std.specs.Prelude.{◌≡◌, ℕ, ◌+◌, ◌<◌, ℤ, pos, ◌≤ℤ◌, Option, Some, None, List, length, slice_index_or, slice_index}
 use Rattle.theory.specs.declared.network.Step.{Step}
 use Rattle.theory.specs.Network.{Network, «at»}
 use Rattle.theory.specs.Conserved.{IsConserved}
@@ -9,9 +9,8 @@ use Rattle.theory.specs.Certificate.{AreNumbers}
 use Rattle.net_incidence.specs.Graph.{Graph, bare}
 use Rattle.net_incidence.specs.Incidence.{incident_steps}
 use Rattle.net_incidence.specs.FlowAlong.{flow_along}
-use Rattle.flow_pieces.specs.declared.list.Piece.{Piece}
 use Rattle.flow_pieces.specs.declared.walker.Walker.{Walker}
-use Rattle.flow_pieces.specs.Pieces.{FlowPiece, GoesAlong}
+use Rattle.flow_pieces.specs.Pieces.{GoesAlong}
 
 pub record Course : Type 0 where
   pub rest : List ℤ

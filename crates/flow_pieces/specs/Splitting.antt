@@ -1,5 +1,5 @@
 -- How the pieces of a flow come about: each is taken off what the ones before it left.
-use Rattle.std.specs.Prelude.{◌≡◌, ℕ, ◌<◌, ℤ, pos, List, ◌++◌, length}
+use Rattle.std.specs.Prelude.{◌≡◌, ℕ, ℤ, pos, List, ◌++◌}
 use Rattle.theory.specs.Network.{Network}
 use Rattle.flow_pieces.specs.declared.list.Piece.{Piece}
 use Rattle.flow_pieces.specs.Pieces.{FlowPiece, ArePieces}

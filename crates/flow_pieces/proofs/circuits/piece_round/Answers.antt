@@ -1,4 +1,4 @@
-use Rattle.std.proofs.Common.{◌≡◌, ℤ, List, sym, ap, ◌∙◌, subst, to_z, of_z, w64, to_z-of_z, SFits, rules}
+use Rattle.std.proofs.Common.{ℤ, List, sym, ap, ◌∙◌, subst, to_z, of_z, w64, to_z-of_z, SFits, rules}
 use Rattle.theory.specs.declared.network.Step.{Step}
 use Rattle.theory.specs.Network.{«at»}
 use Rattle.net_incidence.specs.Graph.{bare}

@@ -1,9 +1,9 @@
-use Rattle.std.proofs.Common.{◌≡◌, ◌<◌, ◌-ℤ◌, ℤ, pos, ◌≤ℤ◌, neg_ℤ, if◌then◌else◌, length, take, sym, ◌∙◌, ap, subst, to_z, of_z, w64, to_z-of_z, SFits, arith, rules}
+use Rattle.std.proofs.Common.{◌≡◌, ◌-ℤ◌, ℤ, pos, ◌≤ℤ◌, neg_ℤ, if◌then◌else◌, sym, ◌∙◌, ap, subst, to_z, of_z, w64, to_z-of_z, SFits, arith, rules}
 use Rattle.std.proofs.lemmas.Int.{ints}
 use Rattle.std.proofs.lemmas.List.{length-set, get_or_read}
 use Rattle.theory.specs.Network.{«at»}
 use Rattle.theory.specs.Circuit.{step}
-use Rattle.flow_pieces.specs.Pieces.{directed, carried}
+use Rattle.flow_pieces.specs.Pieces.{directed}
 use Rattle.flow_pieces.proofs.Carrying.{untouched-now, taken-more}
 use Rattle.flow_pieces.proofs.circuits.take_off.Goals as goal
 

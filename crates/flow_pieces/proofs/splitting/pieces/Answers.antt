@@ -1,4 +1,4 @@
-use Rattle.std.proofs.Common.{ℕ, ◌<◌, length, arith}
+use Rattle.std.proofs.Common.{arith}
 use Rattle.theory.specs.Network.{«at»}
 use Rattle.net_incidence.specs.Graph.{bare}
 use Rattle.flow_pieces.proofs.Falling.{sum_of_pieces}

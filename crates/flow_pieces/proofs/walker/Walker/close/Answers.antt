@@ -1,15 +1,12 @@
-use Rattle.std.proofs.Common.{◌≡◌, ℕ, ◌+◌, ◌-◌, ◌<◌, ℤ, pos, ◌-ℤ◌, ◌≤ℤ◌, List, take, drop, length, sym, ap, ◌∙◌, subst, to_z-of_z, SFits, w64, arith, rules}
-use Rattle.std.proofs.lemmas.Int.{ints}
+use Rattle.std.proofs.Common.{◌≡◌, ℕ, ◌-◌, ◌<◌, ℤ, ◌-ℤ◌, List, take, drop, length, sym, ap, ◌∙◌, subst, to_z-of_z, SFits, w64, arith, rules}
 use Rattle.std.proofs.lemmas.List.{take_rest}
 use Rattle.theory.specs.declared.network.Step.{Step}
 use Rattle.theory.specs.Network.{«at»}
 use Rattle.theory.specs.Circuit.{step}
 use Rattle.net_incidence.specs.Graph.{bare}
-use Rattle.net_incidence.specs.FlowAlong.{flow_along}
 use Rattle.flow_pieces.specs.Pieces.{carried, IsLeastAlong}
 use Rattle.flow_pieces.specs.Course.{course, IsRound, IsCourse, ArePlaces}
 use Rattle.flow_pieces.proofs.Carrying.{ArcsDiffer}
-use Rattle.flow_pieces.proofs.Falling.{weight-positive}
 use Rattle.flow_pieces.proofs.Closing.{is_round, closed}
 use Rattle.flow_pieces.proofs.walker.Walker.close.Goals as goal
 

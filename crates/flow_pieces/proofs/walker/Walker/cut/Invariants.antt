@@ -1,7 +1,5 @@
-use Rattle.std.proofs.Common.{◌≡◌, ◌⊎◌, ℕ, ◌<◌, ◌≤◌, Some, length}
-use Rattle.theory.specs.Circuit.{step, begin_of}
+use Rattle.std.proofs.Common.{◌≡◌}
 use Rattle.net_incidence.specs.Graph.{bare}
-use Rattle.flow_pieces.specs.Course.{place_at}
 use Rattle.flow_pieces.proofs.Closing.{AreBeing}
 use Rattle.flow_pieces.proofs.walker.Walker.cut.Given as goal
 

@@ -1,7 +1,6 @@
-use Rattle.std.proofs.Common.{◌≡◌, ◌+◌, ◌<◌, None, Some, length, sym, ap, ◌∙◌, length-append, arith, rules}
+use Rattle.std.proofs.Common.{◌≡◌, None, length, sym, ap, ◌∙◌, arith, rules}
 use Rattle.std.proofs.lemmas.List.{get_or_read, length_push}
-use Rattle.net_incidence.specs.Graph.{bare}
-use Rattle.flow_pieces.specs.Course.{course, place_at}
+use Rattle.flow_pieces.specs.Course.{place_at}
 use Rattle.flow_pieces.proofs.Going.{has_room}
 use Rattle.flow_pieces.proofs.walker.Walker.go_on.Goals as goal
 

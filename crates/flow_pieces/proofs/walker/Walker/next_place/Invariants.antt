@@ -1,4 +1,3 @@
-use Rattle.std.proofs.Common.{ℕ, ◌<◌, ◌≤◌}
 use Rattle.theory.specs.Network.{«at»}
 use Rattle.net_incidence.specs.Incidence.{incident_steps}
 use Rattle.flow_pieces.specs.Course.{AreDry}

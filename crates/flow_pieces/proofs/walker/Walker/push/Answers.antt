@@ -1,4 +1,4 @@
-use Rattle.std.proofs.Common.{◌≡◌, ℕ, Option, Some, List, ◌++◌, ◌∷◌, [], length, set, sym, ap, ◌∙◌, subst, rules}
+use Rattle.std.proofs.Common.{◌≡◌, ℕ, Option, Some, List, length, set, sym, ap, ◌∙◌, subst, rules}
 use Rattle.theory.specs.declared.network.Step.{Step}
 use Rattle.theory.specs.Circuit.{begin_of}
 use Rattle.net_incidence.specs.Graph.{bare}
