@@ -8,6 +8,7 @@ mod clamp;
 mod cut_test;
 mod feasible;
 mod kilter_test;
+mod levels;
 mod routes;
 mod solving;
 mod spread;
@@ -18,6 +19,7 @@ pub use bundle::{Bundle, Plain};
 pub use cut_test::is_negative_cut;
 pub use feasible::{FeasibleParts, feasibility};
 pub use kilter_test::is_in_kilter;
+pub use levels::Levels;
 pub use routes::{Routed, route};
 pub use solving::solve;
 
