@@ -1,9 +1,7 @@
 -- Readings of a solve that begins with a draw. A unit, `m (2,000,000 m + 2) (n + 3)`, is far above the fuel of a draw,
 -- `100 m (m + 1) (n + 3)`. So the fuel, a test of what was drawn and a round over nodes and arcs fit the one unit that the passes leave.
 use Rattle.std.proofs.Common.{◌≡◌, ℕ, zero, suc, ◌+◌, ◌*◌, ◌≤◌, arith}
-use Rattle.std.proofs.Math.Nat.{mul-le-mul_left}
-use Rattle.theory.specs.Limits.{number_most, level_most}
-use Rattle.theory.specs.ReadingBound.{reading_unit, unscaled_unit, unscaled_bound}
+use Rattle.theory.specs.ReadingBound.{unscaled_unit, unscaled_bound}
 use Rattle.quick_start.specs.Spent.{fuel_share}
 
 pub room_left : (n m : ℕ) → fuel_share n m + m + (15 * unscaled_unit n m + n * m) ≤ unscaled_bound n m
@@ -17,11 +15,3 @@ fuelled n m k l given start drawn tested ended nodes arcs is draws tests ends =
     let left = room_left n m in
     let here : given ≤ fuel_share n m = rw (← nodes, ← arcs) is in
     omega (arith, left, here)
-
--- what balancing by levels reads
-pub leveled-most : (n m : ℕ) → 3 * reading_unit n m level_most ≤ 12 * unscaled_unit n m
-leveled-most n zero = omega arith
-leveled-most n (suc m) =
-    let less : 3 * (level_most + 1) * (suc m + 1) ≤ 12 * (2 * number_most * suc m + 2) = omega arith in
-    let a = mul-le-mul_left (suc m * (n + 3)) less in
-    omega arith
