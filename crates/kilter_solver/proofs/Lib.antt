@@ -15,7 +15,7 @@ pub mod Cutting
 pub mod Serving
 -- The beginning:
 pub mod Clamps
-pub mod InKilter
+pub mod Leveling
 -- Certificates of what was found:
 pub mod Parts
 pub mod Pairs

@@ -9,6 +9,7 @@ use Rattle.theory.specs.Network.{«at», tail, head, list_at}
 use Rattle.theory.specs.Conserved.{tension}
 use Rattle.net_incidence.specs.Graph.{Graph, bare}
 use Rattle.painted_search.specs.Room.{Room}
+use Rattle.curve_views.specs.Levels.{HasFlowNear}
 use Rattle.kilter_solver.specs.Ranges.{shift_most, reach_most, excess_most, far_most}
 use Rattle.kilter_solver.specs.Excess.{excess, AreExcesses, surpluses}
 
@@ -25,12 +26,6 @@ pub record IsClosest (low high : Ext) (x z : ℤ) : Type 0 where
   pub over : IsOver high z
   pub closest : (most : ℕ) (y : ℤ) → IsUnder low y → IsOver high y → IsWithin most (y -ℤ x) → IsWithin most (z -ℤ x)
 
--- some flow is on the curve with the tension, no further from x than this
-pub record HasPairNear (most : ℕ) (items : List Ext) (x v : ℤ) : Type 0 where
-  pub flow : ℤ
-  pub pair : IsOnCurve 1 items flow v
-  pub near : IsWithin most (flow -ℤ x)
-
 -- z is on the curve with the tension, and no such flow is nearer to x
 pub record IsClosestFlow (items : List Ext) (x v z : ℤ) : Type 0 where
   pub pair : IsOnCurve 1 items z v
@@ -46,7 +41,7 @@ pub record IsLoose (g : Graph) (lists : List (List Ext)) (w : Room) : Type 0 whe
   pub small : (i : ℕ) → i < g.nodes → IsWithin excess_most (excess w i)
   pub flows : (j : ℕ) → IsWithin far_most («at» w.flows j)
   pub potentials : (i : ℕ) → IsWithin reach_most («at» w.potentials i)
-  pub near : (j : ℕ) → j < length g.arcs → HasPairNear shift_most (list_at lists j) («at» w.flows j) (tension (bare g) («at» w.potentials) j)
+  pub near : (j : ℕ) → j < length g.arcs → HasFlowNear shift_most (list_at lists j) («at» w.flows j) (tension (bare g) («at» w.potentials) j)
 
 -- by how much flows differ, on the first n arcs together
 abbrev pub shifts : ℕ → List ℤ → List ℤ → ℕ
@@ -76,7 +71,7 @@ pub record IsClampable (g : Graph) (lists : List (List Ext)) (w : Room) (j : ℕ
   pub small : (i : ℕ) → i < g.nodes → IsWithin (far_most + excess_most) (excess w i)
   pub flow : IsWithin far_most («at» w.flows j)
   pub potentials : (i : ℕ) → IsWithin reach_most («at» w.potentials i)
-  pub near : HasPairNear shift_most (list_at lists j) («at» w.flows j) (tension (bare g) («at» w.potentials) j)
+  pub near : HasFlowNear shift_most (list_at lists j) («at» w.flows j) (tension (bare g) («at» w.potentials) j)
 
 -- flow j has moved by d, and the excesses at its ends with it
 pub record IsShifted (g : Graph) (j : ℕ) (d : ℤ) (v w : Room) : Type 0 where

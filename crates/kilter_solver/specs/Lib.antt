@@ -10,6 +10,8 @@ pub mod Spread
 pub mod Routing
 -- The beginning: flows on their curves
 pub mod Clamping
+-- From level to level:
+pub mod Leveling
 -- Certificates of what was found:
 pub mod Kind
 pub mod FeasibleParts

@@ -1,23 +1,24 @@
 // Balancing: from potentials that are feasible to an optimal pair, or to a negative cut.
-ghost use Rattle.std.specs.Prelude.{◌≡◌, ℕ, ◌+◌, ◌*◌, ◌^◌, ◌≤◌, ◌<◌, pos, ◌-ℤ◌, length, map};
+ghost use Rattle.std.specs.Prelude.{◌≡◌, ℕ, ◌+◌, ◌*◌, ◌^◌, ◌≤◌, ◌<◌, pos, ◌-ℤ◌, ◌*ℤ◌, length, map};
 ghost use Rattle.std.specs.List.{All};
-ghost use Rattle.theory.specs.Limits.{IsWithin};
+ghost use Rattle.theory.specs.Limits.{IsWithin, level_most};
 ghost use Rattle.theory.specs.Network.{«at»};
 ghost use Rattle.theory.specs.Feasible.{IsFeasiblePotential};
 ghost use Rattle.theory.specs.Cut.{IsNegativeCut};
 ghost use Rattle.theory.specs.Certificate.{IsOptimalPair, IsPotentialOf, AreNumbers};
-ghost use Rattle.theory.specs.ReadingBound.{unscaled_unit};
+ghost use Rattle.theory.specs.ReadingBound.{reading_unit};
 ghost use Rattle.painted_search.specs.Fits.{Fits};
-ghost use Rattle.painted_search.specs.Writes.{with_potential};
+ghost use Rattle.painted_search.specs.Writes.{with_flow, with_potential};
 ghost use Rattle.net_incidence.specs.WithoutBases.{without_bases, IsPassable};
-ghost use Rattle.kilter_solver.specs.Ranges.{ungrounded_most};
+ghost use Rattle.kilter_solver.specs.Ranges.{far_most, ungrounded_most};
 ghost use Rattle.kilter_solver.specs.Clamping.{IsBegun, IsGroundedBelow, AreNear, IsCleared};
+ghost use Rattle.kilter_solver.specs.Leveling.{IsDoubledBelow, IsLeveled, level_share};
 
-use crate::bundle::Plain;
+use crate::levels::Levels;
 use crate::routes::{Routed, route};
 use crate::spread::Routing;
 use crate::words::set_excess;
-use mono_curve::{Monotone, Steps};
+use mono_curve::{LEVELS, Monotone, Steps};
 use net_incidence::Net;
 use painted_search::Work;
 use std::sync::ledger::Ledger;
@@ -50,22 +51,64 @@ pub fn balance<C: Monotone, L: Ledger>(
     ensures cut { result ≡ Balanced.Cut → IsNegativeCut (without_bases net.now (map C.items curves.now)) work.new.reached }
     ensures fits { Fits net.now work.new }
     ensures no_fewer { steps.old ≤ steps.new }
-    ensures count { steps.new ≤ steps.old + 12 * unscaled_unit net.now.nodes (length net.now.arcs) }
+    ensures count { steps.new ≤ steps.old + 3 * reading_unit net.now.nodes (length net.now.arcs) level_most }
 {
-    let bundle = Plain { curves };
     begin(work);
+    for done in 0..LEVELS + 1 {
+        match balance_level(net, curves, done, work, steps) {
+            Routed::Cut => return Balanced::Cut,
+            Routed::Done => {}
+        }
+    }
+    ground(work);
+    Balanced::InKilter
+}
+
+/// One level further down: flows are doubled, moved to their curves, and what is too much at a node then is sent where it lacks.
+fn balance_level<C: Monotone, L: Ledger>(
+    net: &Net,
+    curves: &[C],
+    done: u32,
+    work: &mut Work,
+    steps: &mut Steps<L>,
+) -> Routed
+    requires level { done ≤ level_most }
+    requires passable { IsPassable net.now (length curves.now) }
+    requires light { All (λ c. C.weight c ≡ 1) curves.now }
+    requires leveled { IsLeveled net.now (map C.items curves.now) level_most done work.old }
+    ensures leveled { result ≡ Routed.Done → IsLeveled net.now (map C.items curves.now) level_most (done + 1) work.new }
+    ensures cut { result ≡ Routed.Cut → IsNegativeCut (without_bases net.now (map C.items curves.now)) work.new.reached }
+    ensures fits { Fits net.now work.new }
+    ensures no_fewer { steps.old ≤ steps.new }
+    ensures count { steps.new ≤ steps.old + level_share (length net.now.arcs) }
+{
+    double(work);
+    let bundle = Levels::of(curves, LEVELS - done);
     let routing = Routing {
         net,
         bundle: &bundle,
     };
     routing.clamp(work, steps);
-    match route(net, &bundle, work, steps) {
-        Routed::Cut => Balanced::Cut,
-        Routed::Done => {
-            ground(work);
-            Balanced::InKilter
-        }
+    route(net, &bundle, work, steps)
+}
+
+/// Twice the flows.
+fn double(work: &mut Work)
+    requires { (j : ℕ) → IsWithin far_most («at» work.old.flows j) }
+    ensures { IsDoubledBelow work.old.arcs work.old work.new }
+{
+    for j in 0..work.arcs() {
+        double_one(work, ArcId(j as u32));
     }
+}
+
+fn double_one(work: &mut Work, arc: ArcId)
+    requires there { arc.0 < work.old.arcs }
+    requires flow { IsWithin far_most («at» work.old.flows arc.0) }
+    ensures { work.new ≡ with_flow work.old arc.0 (pos 2 *ℤ «at» work.old.flows arc.0) }
+{
+    let flow = work.flow(arc);
+    work.set_flow(arc, 2 * flow);
 }
 
 /// No flow, no excess.

@@ -9,6 +9,7 @@ mod cut_test;
 mod feasible;
 mod gaps;
 mod kilter_test;
+mod levels;
 mod routes;
 mod solving;
 mod spread;
@@ -20,6 +21,7 @@ pub use cut_test::is_negative_cut;
 pub use feasible::{FeasibleParts, feasibility};
 pub use gaps::close_gaps;
 pub use kilter_test::is_in_kilter;
+pub use levels::Levels;
 pub use routes::{Routed, route};
 pub use solving::solve;
 

@@ -85,14 +85,15 @@ fn finds_optimal_pairs_and_cuts(rt: HostRuntime) -> Result<(), Fail> {
     let paid = [Ext::At(0), Ext::At(-4), Ext::At(2)];
     let three = [Ext::At(3), Ext::At(0), Ext::PlusInf];
     let four = [Ext::At(4), Ext::At(0), Ext::PlusInf];
+    let wide = [Ext::At(0), Ext::At(1), Ext::At(999_999)];
+    let million = [Ext::At(1_000_000), Ext::At(0), Ext::PlusInf];
     let any = [Ext::MinusInf, Ext::At(0), Ext::PlusInf];
-    for (nodes, arcs, lists, found, flows, potentials) in [
+    for (nodes, arcs, lists, flows, potentials) in [
         // A node alone.
         (
             1,
             [].as_slice(),
             [].as_slice(),
-            Balanced::InKilter,
             [].as_slice(),
             [0].as_slice(),
         ),
@@ -101,8 +102,15 @@ fn finds_optimal_pairs_and_cuts(rt: HostRuntime) -> Result<(), Fail> {
             2,
             [(0, 1), (0, 1), (1, 0)].as_slice(),
             [cheap, dear, three].as_slice(),
-            Balanced::InKilter,
             [2, 1, 3].as_slice(),
+            [0, 5].as_slice(),
+        ),
+        // All but one of a million units over the wide arc, one over the dear one.
+        (
+            2,
+            [(0, 1), (0, 1), (1, 0)].as_slice(),
+            [wide, dear, million].as_slice(),
+            [999_999, 1, 1_000_000].as_slice(),
             [0, 5].as_slice(),
         ),
         // Round a circuit that pays for itself.
@@ -110,7 +118,6 @@ fn finds_optimal_pairs_and_cuts(rt: HostRuntime) -> Result<(), Fail> {
             2,
             [(0, 1), (1, 0)].as_slice(),
             [cheap, paid].as_slice(),
-            Balanced::InKilter,
             [2, 2].as_slice(),
             [0, 1].as_slice(),
         ),
@@ -119,26 +126,22 @@ fn finds_optimal_pairs_and_cuts(rt: HostRuntime) -> Result<(), Fail> {
             2,
             [(0, 1), (0, 1)].as_slice(),
             [three, any].as_slice(),
-            Balanced::InKilter,
             [3, -3].as_slice(),
             [0, 0].as_slice(),
-        ),
-        // No less than 4 units, and room for 2.
-        (
-            2,
-            [(0, 1), (1, 0)].as_slice(),
-            [cheap, four].as_slice(),
-            Balanced::Cut,
-            [2, 4].as_slice(),
-            [-1, 0].as_slice(),
         ),
     ] {
         let net = net_of(&rt, nodes, arcs)?;
         let curves = curves_of(&rt, lists)?;
         let (answer, work) = balanced::<Brand>(&rt, &net, curves.as_slice(), Blank::new(1))?;
-        assert_eq!(rt; answer, found);
+        assert_eq!(rt; answer, Balanced::InKilter);
         assert_eq!(rt; work.flows(), flows);
         assert_eq!(rt; work.potentials(), potentials);
     }
+    // No less than 4 units, and room for 2.
+    let net = net_of(&rt, 2, [(0, 1), (1, 0)].as_slice())?;
+    let curves = curves_of(&rt, [cheap, four].as_slice())?;
+    let (answer, work) = balanced::<Brand>(&rt, &net, curves.as_slice(), Blank::new(1))?;
+    assert_eq!(rt; answer, Balanced::Cut);
+    assert_eq!(rt; work.marks(), [true, false].as_slice());
     Ok(())
 }
