@@ -5,7 +5,8 @@ ghost use Rattle.theory.specs.Feasible.{IsFeasibleFlow, IsFeasiblePotential};
 ghost use Rattle.theory.specs.Cut.{IsNegativeCut};
 ghost use Rattle.theory.specs.Circuit.{IsNegativeCircuit};
 ghost use Rattle.theory.specs.Certificate.{AreNumbers, IsPotentialOf, IsWalkOf, IsOptimalPair};
-ghost use Rattle.theory.specs.ReadingBound.{unscaled_bound, unscaled_unit};
+ghost use Rattle.theory.specs.Limits.{level_most};
+ghost use Rattle.theory.specs.ReadingBound.{reading_bound, reading_unit};
 ghost use Rattle.kilter_solver.specs.FeasibleParts.{IsFlowPart, IsTensionPart, IsNoFlow, IsNoTension};
 
 use crate::certifying::number_of;
@@ -40,7 +41,7 @@ pub fn feasibility<L: Ledger>(
     ensures flow_kind { IfOk result (λ found. IsNoFlow found.flow ↔ FlowIsRefused g.now.network) }
     ensures tension_kind { IfOk result (λ found. IsNoTension found.tension ↔ TensionIsRefused g.now.network) }
     ensures no_fewer { steps.old ≤ steps.new }
-    ensures count { steps.new ≤ steps.old + unscaled_bound g.now.network.nodes (length g.now.network.arcs) }
+    ensures count { steps.new ≤ steps.old + reading_bound g.now.network.nodes (length g.now.network.arcs) level_most }
 {
     let net = g.net();
     let curves = g.curves();
@@ -107,7 +108,7 @@ fn both_passes<L: Ledger>(
     ensures flow { IfOk result (λ found. IsFlowPart g.now.network found.flow) }
     ensures tension { IfOk result (λ found. IsTensionPart g.now.network found.tension) }
     ensures no_fewer { steps.old ≤ steps.new }
-    ensures count { steps.new ≤ steps.old + 3 * unscaled_unit g.now.network.nodes (length g.now.network.arcs)
+    ensures count { steps.new ≤ steps.old + 3 * reading_unit g.now.network.nodes (length g.now.network.arcs) level_most
         + g.now.network.nodes * length g.now.network.arcs }
 {
     let flow = flow_pass(alloc, g, work, steps)?;
@@ -128,7 +129,7 @@ fn flow_pass<L: Ledger>(
     ensures nodes { work.new.nodes ≡ g.now.network.nodes }
     ensures arcs { work.new.arcs ≡ length g.now.network.arcs }
     ensures no_fewer { steps.old ≤ steps.new }
-    ensures count { steps.new ≤ steps.old + 3 * unscaled_unit g.now.network.nodes (length g.now.network.arcs) }
+    ensures count { steps.new ≤ steps.old + 3 * reading_unit g.now.network.nodes (length g.now.network.arcs) level_most }
 {
     let net = g.net();
     let curves = g.curves();

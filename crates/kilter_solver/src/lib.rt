@@ -29,3 +29,5 @@ pub use solving::solve;
 mod solve_tests;
 #[cfg(test)]
 mod tests;
+#[cfg(test)]
+mod counting_tests;

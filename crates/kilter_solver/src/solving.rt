@@ -3,7 +3,8 @@
 ghost use Rattle.std.specs.Prelude.{◌≡◌, ◌+◌, ◌*◌, ◌≤◌, length, IfOk};
 ghost use Rattle.theory.specs.Certificate.{IsValid};
 ghost use Rattle.theory.specs.CertificateLaws.{Says};
-ghost use Rattle.theory.specs.ReadingBound.{unscaled_bound, unscaled_unit};
+ghost use Rattle.theory.specs.Limits.{level_most};
+ghost use Rattle.theory.specs.ReadingBound.{reading_bound, reading_unit};
 ghost use Rattle.cert_text.specs.Shown.{shown};
 ghost use Rattle.kilter_solver.specs.Kind.{IsRightKind};
 
@@ -32,7 +33,7 @@ pub fn solve<L: Ledger>(
     ensures says { IfOk result (λ c. Says g.now.network (shown c)) }
     ensures kind { IfOk result (λ c. IsRightKind g.now.network (shown c)) }
     ensures no_fewer { steps.old ≤ steps.new }
-    ensures count { steps.new ≤ steps.old + unscaled_bound g.now.network.nodes (length g.now.network.arcs) }
+    ensures count { steps.new ≤ steps.old + reading_bound g.now.network.nodes (length g.now.network.arcs) level_most }
 {
     let net = g.net();
     let curves = g.curves();
@@ -60,7 +61,7 @@ pub(crate) fn pass<L: Ledger>(
     requires arcs { work.old.arcs ≡ length g.now.network.arcs }
     ensures valid { IfOk result (λ c. IsValid g.now.network (shown c)) }
     ensures no_fewer { steps.old ≤ steps.new }
-    ensures count { steps.new ≤ steps.old + 15 * unscaled_unit g.now.network.nodes (length g.now.network.arcs)
+    ensures count { steps.new ≤ steps.old + 6 * reading_unit g.now.network.nodes (length g.now.network.arcs) level_most
         + g.now.network.nodes * length g.now.network.arcs }
 {
     let net = g.net();

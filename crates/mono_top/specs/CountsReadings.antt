@@ -3,7 +3,8 @@ use Rattle.std.specs.Prelude.{◌≡◌, ℕ, ◌+◌, ◌≤◌, List, length, 
 use Rattle.std.specs.Option.{ForSome}
 use Rattle.theory.specs.Network.{Network}
 use Rattle.theory.specs.Grounded.{Entries, grounded}
-use Rattle.theory.specs.ReadingBound.{unscaled_bound}
+use Rattle.theory.specs.Limits.{level_most}
+use Rattle.theory.specs.ReadingBound.{reading_bound}
 use Rattle.outside_io.specs.Files.{Files}
 use Rattle.model_text.specs.ModelText.{Spells}
 use Rattle.mono_top.specs.Reading.{IsFileWith, IsModelFile}
@@ -11,7 +12,7 @@ use Rattle.mono_top.specs.Request.{Request, about_model, about_trial, Question, 
 use Rattle.trial_model.specs.Trial.{trial_entries}
 
 abbrev pub net_bound : Network → ℕ
-net_bound net = unscaled_bound net.nodes (length net.arcs)
+net_bound net = reading_bound net.nodes (length net.arcs) level_most
 
 -- the most readings of a model's curves that a question about it takes; one that is not named here takes none
 abbrev pub readings_most : Question → Entries → ℕ
