@@ -1,6 +1,6 @@
 // How often the passes read curves that count their readings themselves: a counter of a pass's own would not escape them.
-use crate::{Balanced, balance};
 use crate::tests::net_of;
+use crate::{Balanced, balance};
 use feasible_flow::{FlowAns, feasible_flow};
 use feasible_tension::{TensionAns, feasible_tension};
 use mono_curve::{Curve, Ext, Monotone, Steps};

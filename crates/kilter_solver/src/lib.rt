@@ -26,8 +26,8 @@ pub use routes::{Routed, route};
 pub use solving::solve;
 
 #[cfg(test)]
+mod counting_tests;
+#[cfg(test)]
 mod solve_tests;
 #[cfg(test)]
 mod tests;
-#[cfg(test)]
-mod counting_tests;
