@@ -1,5 +1,5 @@
 // The command `trial NUMBER`: the drawn model of the number, solved as `solve` solves the model of a file.
-ghost use Rattle.std.specs.Prelude.{◌≡◌, ◌++◌, ◌∷◌, [], pos, codes, IfOk, OnOk};
+ghost use Rattle.std.specs.Prelude.{◌≡◌, ◌++◌, ◌∷◌, [], codes, IfOk, OnOk};
 ghost use Rattle.cert_text.specs.Shown.{shown};
 ghost use Rattle.model_text.specs.Printed.{printed_line, printed_number};
 ghost use Rattle.mono_top.specs.CountsReadings.{ReadsCurves};

@@ -1,13 +1,13 @@
 -- The lists of trial models are curve lists within the limits.
-use Rattle.std.proofs.Common.{◌≡◌, ℕ, zero, suc, ◌+◌, ◌<◌, ◌≤◌, ℤ, pos, ◌+ℤ◌, ◌-ℤ◌, neg_ℤ, ◌<ℤ◌, ◌≤ℤ◌, List, [], ◌∷◌, length, refl, ap, ◌∙◌, arith}
+use Rattle.std.proofs.Common.{◌≡◌, ℕ, zero, suc, ◌+◌, ◌<◌, ◌≤◌, ℤ, pos, ◌+ℤ◌, ◌-ℤ◌, neg_ℤ, ◌<ℤ◌, List, [], ◌∷◌, length, refl, ap, ◌∙◌, arith}
 use Rattle.std.proofs.lemmas.Int.{ints}
 use Rattle.theory.specs.declared.ext.Ext.{Ext}
 use Rattle.theory.specs.declared.ext.Ext.TheVariants.{MinusInf, At, PlusInf}
 use Rattle.theory.specs.Ends.{whole}
-use Rattle.theory.specs.Limits.{AreWithin, IsWithin, number_most, base_most, items_most}
+use Rattle.theory.specs.Limits.{AreWithin, IsWithin, number_most, base_most}
 use Rattle.theory.specs.Sums.{Each}
 use Rattle.theory.proofs.Bounds.{nothing_within}
-use Rattle.theory.proofs.Shape.{Shape, Rest, less_in, place_of_shape}
+use Rattle.theory.proofs.Shape.{Shape, less_in, place_of_shape}
 use Rattle.theory.proofs.Shape.Rest.{ends, goes_on}
 use Rattle.theory.proofs.Shape.Shape.{single, long}
 use Rattle.mono_curve.specs.CurveValue.{IsValidCurve}

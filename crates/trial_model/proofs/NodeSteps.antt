@@ -1,11 +1,11 @@
 -- The loop over the nodes: the nodes so far, the sum of their supplies, and the state that their draws left.
-use Rattle.std.proofs.Common.{◌≡◌, ◌≢◌, ℕ, ◌+◌, ◌*◌, ◌<◌, ◌≤◌, ℤ, pos, neg_ℤ, ◌+ℤ◌, ◌-ℤ◌, ◌≤ℤ◌, false, List, [], ◌∷◌, ◌++◌, length, None, refl, sym, ap, ◌∙◌, subst, arith}
+use Rattle.std.proofs.Common.{◌≡◌, ◌≢◌, ℕ, ◌+◌, ◌*◌, ◌<◌, ℤ, pos, neg_ℤ, ◌+ℤ◌, ◌-ℤ◌, ◌≤ℤ◌, false, List, [], ◌∷◌, ◌++◌, length, None, refl, sym, ap, ◌∙◌, subst, arith}
 use Rattle.std.specs.Prelude.{is_some, nat_le}
 use Rattle.std.proofs.lemmas.Bool.Decides.{nat_tests}
 use Rattle.std.proofs.lemmas.Int.{ints}
 use Rattle.theory.specs.declared.ext.Ext.TheVariants.{At}
 use Rattle.theory.specs.Grounded.{Entries, NodeEntry}
-use Rattle.theory.specs.Limits.{nodes_most, number_most, IsWithin}
+use Rattle.theory.specs.Limits.{nodes_most}
 use Rattle.theory.specs.Sums.{Each, sum_over}
 use Rattle.model_text.specs.Model.{no_entries, with_node, node_fault, node_names, place_of}
 use Rattle.trial_model.specs.Generator.{state_after, drawn}

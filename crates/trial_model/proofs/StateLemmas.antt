@@ -1,5 +1,5 @@
 -- States one draw after the other.
-use Rattle.std.proofs.Common.{◌≡◌, ℕ, zero, suc, ◌+◌, ◌*◌, ◌<◌, ◌/◌, ◌%◌, ◌^◌, refl, ap, ◌∙◌, sym, add-one, arith}
+use Rattle.std.proofs.Common.{◌≡◌, ℕ, zero, suc, ◌+◌, ◌*◌, ◌<◌, ◌/◌, ◌%◌, ◌^◌, refl, ap, ◌∙◌, add-one, arith}
 use Rattle.std.proofs.Math.Nat.{mod-add-mod}
 use Rattle.trial_model.specs.Generator.{advance, state_after, drawn}
 

@@ -1,10 +1,9 @@
 -- The counts of a trial model, and its first node.
-use Rattle.std.proofs.Common.{◌≡◌, ℕ, ◌+◌, ℤ, negsuc, ◌<◌, List, [], ◌∷◌, ◌++◌, length, refl, ap, ◌∙◌, arith, length-append, codes}
+use Rattle.std.proofs.Common.{◌≡◌, ℕ, ◌+◌, negsuc, ◌<◌, List, [], ◌∷◌, length, refl, ap, ◌∙◌, arith, length-append, codes}
 use Rattle.std.proofs.lemmas.List.{get_or_append_left}
-use Rattle.theory.specs.Grounded.{NodeEntry}
 use Rattle.model_text.specs.Model.{node_at}
 use Rattle.trial_model.specs.Generator.{advance, state_after, drawn}
-use Rattle.trial_model.specs.Trial.{values_below, numbered, drawn_node, drawn_supply, node, nodes, balance, ring_arc, ring, chord, chords, state_at_ring, state_at_chords, trial_entries}
+use Rattle.trial_model.specs.Trial.{values_below, numbered, drawn_node, drawn_supply, node, balance, ring_arc, ring, chord, chords, state_at_ring, state_at_chords, trial_entries}
 use Rattle.trial_model.specs.TrialLaws.{CountsLaw}
 use Rattle.std.proofs.lemmas.Fmt.{decimal_digit}
 use Rattle.trial_model.proofs.ListLemmas.{length-values, first-value}

@@ -1,4 +1,4 @@
-use Rattle.std.proofs.Common.{◌≡◌, length, ap, ◌∙◌}
+use Rattle.std.proofs.Common.{length, ap, ◌∙◌}
 use Rattle.theory.specs.Grounded.{Entries}
 use Rattle.trial_model.proofs.TrialLaws.{counts}
 use Rattle.trial_model.proofs.making.trial.Goals as goal

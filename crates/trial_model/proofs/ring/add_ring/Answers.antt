@@ -1,4 +1,4 @@
-use Rattle.std.proofs.Common.{◌≡◌, arith}
+use Rattle.std.proofs.Common.{arith}
 use Rattle.trial_model.proofs.ArcSteps.{no_ring, ring_more, ring_free}
 use Rattle.trial_model.proofs.ring.add_ring.Goals as goal
 
