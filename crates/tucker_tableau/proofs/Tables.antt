@@ -18,7 +18,7 @@ use Rattle.tucker_tableau.specs.First.{star, IsFirst}
 use Rattle.tucker_tableau.specs.Cells.{IsTablePivoted, IsStar}
 use Rattle.tucker_tableau.specs.Kept.{tableau_arcs_most, IsCounting, IsLawfulTable, IsKept}
 use Rattle.tucker_tableau.specs.Places.{IsNowhere, IsAt}
-use Rattle.tucker_tableau.specs.Lead.{IsModelNetwork, IsLed, NoGround, IsGreatest, IsLedTo, IsTaken}
+use Rattle.tucker_tableau.specs.Lead.{IsGroundTree, IsModelNetwork, IsLed, NoGround, IsGreatest, IsLedTo, IsTaken}
 use Rattle.tucker_tableau.specs.Leading.{IsLookedAt, KeepsTableau, IsLeading}
 use Rattle.tucker_tableau.proofs.Exchange.{number-same, lawful_pivoted, lawful_same, pivoted-twice, set-back}
 use Rattle.tucker_tableau.proofs.Ground.{IsGroundedAt, first_lawful}
@@ -283,3 +283,9 @@ pub first_of : (net : Network) (table : Table) → IsGrounded net → IsFirst ne
 first_of net table ground first =
     tucker_tableau net table.rows table.columns (entry table) ground.is_network
     (first_tableau net table ground.is_network (grounded_at net (length table.rows) ground first.row_count) first)
+
+pub first_ground : (net : Network) (table : Table) → IsFirst net table → IsGroundTree table
+first_ground net table first arc = (
+  λ h. let e = first.rows h.place h.there in let f = h.is in let l = h.there in omega arith,
+  λ l. record { place = arc; there = l; is = first.rows arc l },
+)

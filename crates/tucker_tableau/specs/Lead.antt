@@ -17,6 +17,10 @@ pub record IsModelNetwork (net : Network) (n : ℕ) : Type 0 where
   pub model_tails : (k : ℕ) → n ≤ k → k < length net.arcs → 1 ≤ tail net k
   pub model_heads : (k : ℕ) → n ≤ k → k < length net.arcs → 1 ≤ head net k
 
+-- the rows hold the arcs of the ground, in any order
+abbrev pub IsGroundTree : Table → Type 0
+IsGroundTree table = (arc : ℕ) → HasArc table.rows arc ↔ (arc < length table.rows)
+
 -- ---- the tree
 
 abbrev pub arc_of : List Step → ℕ → ℕ
