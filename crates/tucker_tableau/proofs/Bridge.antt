@@ -57,8 +57,8 @@ is_tree net rows columns a lawful =
       differ = split.rows_differ;
       no_circuit = no_circuit net rows columns a lawful;
       joins_all = λ k l. (
-        let p = path net rows 0 k split.rows_differ (one_part net rows lawful.spans k l) in
-        (p.0, Each-at (λ s. HasArc rows s.arc.0) p.0 p.1.over, leads-way net 0 k p.0 p.1.way));
+          let p = path net rows 0 k split.rows_differ (one_part net rows lawful.spans k l) in
+          (p.0, Each-at (λ s. HasArc rows s.arc.0) p.0 p.1.over, leads-way net 0 k p.0 p.1.way));
     }
 
 -- ---- the entries
@@ -93,6 +93,7 @@ entry_each net rows columns a lawful i j row column walk of =
   where
     once : (x : ℤ) → x *ℤ pos 1 ≡ x
     once x = omega (arith, rings)
+
     nothing : (x : ℤ) → x *ℤ pos 0 ≡ pos 0
     nothing x = omega (arith, rings)
 

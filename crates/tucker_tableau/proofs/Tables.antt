@@ -138,6 +138,7 @@ pivoted_again old new next r s kept row column passes p q =
   where
     at_place : (k w : ℕ) → 0 < w → k / w * w + k % w ≡ k
     at_place k w l = omega arith
+
     rest_below : (k w : ℕ) → 0 < w → k % w < w
     rest_below k w l = omega arith
 
@@ -206,6 +207,7 @@ led_step net n k now new model_arc there count good model lawful state looked =
   where
     strict : (n k m : ℕ) → n ≤ k → m ≡ k → m < n → ⊥
     strict n k m l e g = omega arith
+
     strict_too : (k m : ℕ) → m ≡ k → m < k → ⊥
     strict_too k m e b = omega arith
 
@@ -218,12 +220,12 @@ leading-more old now new k low high state looked keeps =
       columns = counts.1 ∙ state.columns;
       keeps = λ net good t. keeps net good (state.keeps net good t);
       led = λ net good model t. (
-        let lawful = lawful_tableau net now.rows now.columns (entry now) (state.keeps net good t) in
-        let size = lawful.split.size in
-        let r = state.rows in
-        let c = state.columns in
-        let there : k < length net.arcs = omega arith in
-        led_step net (length old.rows) k now new low there (sym state.rows) good model lawful (state.led net good model t) looked);
+          let lawful = lawful_tableau net now.rows now.columns (entry now) (state.keeps net good t) in
+          let size = lawful.split.size in
+          let r = state.rows in
+          let c = state.columns in
+          let there : k < length net.arcs = omega arith in
+          led_step net (length old.rows) k now new low there (sym state.rows) good model lawful (state.led net good model t) looked);
     }
 
 pub leading-all : (old now : Table) (k : ℕ) → k ≡ length old.rows + length old.columns → IsLeading old now k
@@ -255,8 +257,8 @@ first_is net h rows columns entries n m same ground rows_count columns_count cou
       rows = λ i l. (let e = counted_rows.numbers i (omega arith) in omega arith);
       columns = λ j l. (let e = counted_columns.numbers j (omega arith) in omega arith);
       entries = λ i j l k.
-        ap (λ w. cell entries w i j) wide ∙ star_is.cells i j (omega arith) (omega arith) ∙ whole (nat_lt j m) (lt-ltb j m (omega arith)) n i j
-        ∙ ap₂ (λ (list : List Arc) (count : ℕ). counted ((arc_at list (count + j)).from.0 == i + 1) (pos 1) -ℤ counted ((arc_at list (count + j)).to.0 == i + 1) (pos 1)) arcs (sym high);
+          ap (λ w. cell entries w i j) wide ∙ star_is.cells i j (omega arith) (omega arith) ∙ whole (nat_lt j m) (lt-ltb j m (omega arith)) n i j
+          ∙ ap₂ (λ (list : List Arc) (count : ℕ). counted ((arc_at list (count + j)).from.0 == i + 1) (pos 1) -ℤ counted ((arc_at list (count + j)).to.0 == i + 1) (pos 1)) arcs (sym high);
     }
   where
     whole : (b : Bool) → b ≡ true → (n i j : ℕ) → (cond b (star (bare h) n i j) (pos 0)) ≡ star (bare h) n i j

@@ -12,3 +12,6 @@ mod tableau;
 
 pub use fault::{TabFault, ZeroEntry};
 pub use tableau::Tableau;
+
+#[cfg(test)]
+mod tests;
