@@ -3,6 +3,7 @@
 #![tactic(auto)]
 
 mod entries;
+mod examples;
 mod fault;
 mod first;
 mod lead;
@@ -12,6 +13,3 @@ mod tableau;
 
 pub use fault::{TabFault, ZeroEntry};
 pub use tableau::Tableau;
-
-#[cfg(test)]
-mod tests;
