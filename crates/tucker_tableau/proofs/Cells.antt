@@ -1,7 +1,7 @@
 -- Places of a list that has rows: two places are one exactly where their rows and columns are. What a write changes.
-use Rattle.std.proofs.Common.{◌≡◌, ◌≢◌, ◌⊎◌, ℕ, zero, suc, ◌-◌, ◌==◌, ◌&&◌, ◌+◌, ◌*◌, ◌<◌, ◌≤◌, ◌^◌, ℤ, pos, negsuc, ◌+ℤ◌, ◌-ℤ◌, ◌*ℤ◌, neg_ℤ, List, length, set, get_or, refl, sym, ap, ap₂, ◌∙◌, ⊎_elim, eq-eqb, length-set, get_or-set_same, get_or-set_other, FitsSigned, to_z, of_z, arith}
+use Rattle.std.proofs.Common.{◌≡◌, ◌≢◌, ℕ, zero, suc, ◌-◌, ◌+◌, ◌*◌, ◌<◌, ◌≤◌, ◌^◌, ℤ, pos, ◌-ℤ◌, ◌*ℤ◌, neg_ℤ, List, length, set, refl, sym, ap, ap₂, ◌∙◌, ⊎_elim, eq-eqb, length-set, get_or-set_same, get_or-set_other, FitsSigned, to_z, of_z, arith}
 use Rattle.std.specs.Int.{w8}
-use Rattle.std.proofs.lemmas.Int.{ints, to_z-of_z, fits_signed_from_abs}
+use Rattle.std.proofs.lemmas.Int.{to_z-of_z, fits_signed_from_abs}
 use Rattle.std.proofs.lemmas.Bool.{cases_eq, ne_eqb}
 use Rattle.std.proofs.lemmas.Nat.{same_from_place}
 use Rattle.theory.specs.Limits.{IsWithin}

@@ -2,7 +2,7 @@
 -- is conserved, since each step brings to a node what the next one takes from it; and it passes each arc at most once, so the
 -- flow on an arc says how the circuit passes it. A path over the rows from the head of an arc back to its tail, after the arc
 -- itself, is the circuit that the arc closes.
-use Rattle.std.proofs.Common.{◌≡◌, ◌≢◌, ◌⊎◌, ℕ, zero, suc, ◌+◌, ◌<◌, ◌≤◌, ◌==◌, ℤ, pos, negsuc, ◌+ℤ◌, ◌-ℤ◌, ◌*ℤ◌, neg_ℤ, cond, Bool, true, false, List, [], ◌∷◌, length, refl, sym, ap, ap₂, ◌∙◌, ⊎_elim, inl, inr, eq-eqb, arith}
+use Rattle.std.proofs.Common.{◌≡◌, ◌≢◌, ℕ, zero, suc, ◌+◌, ◌<◌, ◌==◌, ℤ, pos, negsuc, ◌+ℤ◌, ◌-ℤ◌, cond, Bool, true, false, List, [], ◌∷◌, length, refl, sym, ap, ◌∙◌, ⊎_elim, eq-eqb, arith}
 use Rattle.std.proofs.lemmas.Int.{ints}
 use Rattle.std.proofs.lemmas.Bool.{cases_eq, ne_eqb}
 use Rattle.theory.specs.declared.network.Step.{Step}
@@ -11,12 +11,10 @@ use Rattle.theory.specs.Network.{Network, tail, head}
 use Rattle.theory.specs.Conserved.{IsConserved, outflow, inflow}
 use Rattle.theory.specs.Circuit.{step, begin_of, end_of, IsCircuit, WalkIsThere}
 use Rattle.theory.specs.Tucker.{HasArc, IsCircuitOf, passing}
-use Rattle.theory.proofs.Rings.{rings}
 use Rattle.theory.proofs.Sums.{Each-map}
 use Rattle.theory.proofs.SumsBelow.{sum_below-same, sum_below-zero, sum_below-add, sum_below-pick, counted-add}
 use Rattle.theory.proofs.Unbounded.{mark_of}
 use Rattle.theory.proofs.Refusals.{around}
-use Rattle.tucker_tableau.specs.Tableau.{number}
 use Rattle.tucker_tableau.proofs.Paths.{AllDiffer, IsWay, IsPath, Each-at}
 
 -- ---- the flow round a walk

@@ -1,12 +1,12 @@
 -- A pivot keeps the laws. The two arcs change places, so each arc is still a row or a column, once. The laws are those of sums
 -- in Pivots. A potential that rises along no new row's arc rises along none of the old ones either: on the column's arc the
 -- tension law leaves one product, p times the rise along the arc that left, and p * p = 1.
-use Rattle.std.proofs.Common.{◌≡◌, ◌≢◌, ◌⊎◌, ℕ, ◌+◌, ◌<◌, ◌≤◌, ◌==◌, ℤ, pos, ◌-ℤ◌, ◌*ℤ◌, neg_ℤ, List, length, set, get_or, refl, sym, ap, ap₂, ◌∙◌, subst, ⊎_elim, inl, inr, eq-eqb, length-set, get_or-set_same, get_or-set_other, arith}
+use Rattle.std.proofs.Common.{◌≡◌, ◌≢◌, ℕ, ◌<◌, ◌≤◌, ℤ, pos, ◌-ℤ◌, ◌*ℤ◌, neg_ℤ, List, length, set, get_or, refl, sym, ap, ap₂, ◌∙◌, ⊎_elim, inl, inr, eq-eqb, length-set, get_or-set_same, get_or-set_other, arith}
 use Rattle.std.proofs.lemmas.Bool.{cases_eq, cases_lt, ne_eqb}
 use Rattle.std.proofs.lemmas.List.{same_lists, get_or_default}
 use Rattle.theory.specs.Sums.{sum_below}
 use Rattle.theory.specs.Network.{Network}
-use Rattle.theory.specs.Conserved.{IsConserved, tension}
+use Rattle.theory.specs.Conserved.{tension}
 use Rattle.theory.specs.Tucker.{HasArc}
 use Rattle.theory.proofs.Rings.{rings}
 use Rattle.theory.proofs.SumsBelow.{sum_below-same}

@@ -1,17 +1,16 @@
 -- The ground arcs are the first tree. At node i + 1 the ground arc i brings what the other arcs take away, which is the flow
 -- law. From the ground the potential rises along the ground arc of a node to that of the node, so the rise along another arc is
 -- that of its head's ground arc less that of its tail's, which is the tension law.
-use Rattle.std.proofs.Common.{◌≡◌, ◌≢◌, ◌⊎◌, ℕ, zero, suc, ◌+◌, ◌-◌, ◌<◌, ◌≤◌, ◌==◌, ℤ, pos, negsuc, ◌+ℤ◌, ◌-ℤ◌, ◌*ℤ◌, neg_ℤ, Bool, true, false, List, length, refl, sym, ap, ap₂, ◌∙◌, subst, ⊎_elim, inl, inr, eq-eqb, arith}
+use Rattle.std.proofs.Common.{◌≡◌, ◌≢◌, ℕ, zero, suc, ◌+◌, ◌-◌, ◌<◌, ◌≤◌, ◌==◌, ℤ, pos, ◌+ℤ◌, ◌-ℤ◌, ◌*ℤ◌, neg_ℤ, Bool, true, false, length, refl, sym, ap, ap₂, ◌∙◌, ⊎_elim, inl, inr, eq-eqb, arith}
 use Rattle.std.proofs.lemmas.Int.{ints}
 use Rattle.std.proofs.lemmas.Bool.{cases_eq, cases_lt, ne_eqb}
 use Rattle.theory.specs.Sums.{sum_below, counted}
 use Rattle.theory.specs.Network.{Network, IsNetwork, tail, head}
 use Rattle.theory.specs.Conserved.{IsConserved, tension}
-use Rattle.theory.specs.Tucker.{HasArc}
 use Rattle.theory.proofs.Rings.{rings}
-use Rattle.theory.proofs.SumsBelow.{sum_below-same, sum_below-zero, sum_below-add, sum_below-sub, sum_below-front, sum_below-pick}
-use Rattle.tucker_tableau.specs.Tableau.{number, FlowLaw, TensionLaw, Spans, IsSplit, IsLawful}
-use Rattle.tucker_tableau.specs.Table.{Table, entry}
+use Rattle.theory.proofs.SumsBelow.{sum_below-same, sum_below-zero, sum_below-sub, sum_below-front, sum_below-pick}
+use Rattle.tucker_tableau.specs.Tableau.{number, IsLawful}
+use Rattle.tucker_tableau.specs.Table.{Table}
 use Rattle.tucker_tableau.specs.First.{star, IsFirst}
 
 -- arc i runs from the ground to node i + 1

@@ -4,22 +4,20 @@
 -- passes, both ends of k have one first node, and a path over the model arcs of the tree closes a circuit with k. Else the two
 -- first nodes are different, their ground arcs are the two rows that pass, and the greater one leaves the tree: the first node
 -- of the nodes that k connects is the other one.
-use Rattle.std.proofs.Common.{◌≡◌, ◌≢◌, ◌⊎◌, ◌↔◌, ℕ, zero, suc, ◌+◌, ◌-◌, ◌<◌, ◌≤◌, ◌==◌, cond, ℤ, pos, negsuc, ◌-ℤ◌, ◌*ℤ◌, neg_ℤ, List, [], ◌∷◌, length, set, refl, sym, ap, ap₂, ◌∙◌, ⊎_elim, inl, inr, eq-eqb, length-set, arith}
+use Rattle.std.proofs.Common.{◌≡◌, ◌≢◌, ◌⊎◌, ℕ, zero, suc, ◌+◌, ◌<◌, ◌≤◌, ◌==◌, cond, ℤ, pos, ◌-ℤ◌, ◌*ℤ◌, neg_ℤ, List, ◌∷◌, length, set, refl, sym, ap, ap₂, ◌∙◌, ⊎_elim, inl, inr, eq-eqb, length-set, arith}
 use Rattle.std.proofs.lemmas.Int.{ints}
 use Rattle.std.proofs.lemmas.Bool.{cases_eq, cases_lt, ne_eqb}
 use Rattle.theory.specs.declared.network.Step.{Step}
-use Rattle.theory.specs.Sums.{sum_below, counted, Each}
-use Rattle.theory.specs.Network.{Network, IsNetwork, tail, head}
+use Rattle.theory.specs.Sums.{counted}
+use Rattle.theory.specs.Network.{Network, tail, head}
 use Rattle.theory.specs.Conserved.{tension}
-use Rattle.theory.specs.Circuit.{step, IsCircuit}
-use Rattle.theory.specs.Tucker.{HasArc, Leads, GoesOver}
+use Rattle.theory.specs.Tucker.{HasArc, GoesOver}
 use Rattle.theory.proofs.Rings.{rings}
-use Rattle.tucker_tableau.specs.Tableau.{number, TensionLaw, IsSplit, IsLawful}
-use Rattle.tucker_tableau.specs.Table.{Table, entry}
-use Rattle.tucker_tableau.specs.Lead.{IsModelNetwork, arc_of, Closes, Connects, IsLed, NoGround, IsGreatest, part, IsLedTo}
+use Rattle.tucker_tableau.specs.Tableau.{number, TensionLaw, IsSplit}
+use Rattle.tucker_tableau.specs.Lead.{IsModelNetwork, arc_of, Closes, part, IsLedTo}
 use Rattle.tucker_tableau.proofs.Pivots.{tension_alone}
 use Rattle.tucker_tableau.proofs.Exchange.{number-same, number-other, has_kept}
-use Rattle.tucker_tableau.proofs.Paths.{part-same, part-tail, part-ends, path, Each-at, leads-way, level-leads}
+use Rattle.tucker_tableau.proofs.Paths.{part-same, part-ends, path, Each-at}
 use Rattle.tucker_tableau.proofs.Circuits.{circuit_of, after}
 
 -- ---- the entries of ground rows

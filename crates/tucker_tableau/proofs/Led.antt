@@ -1,19 +1,16 @@
 -- Where `lead` starts: no model arc is in the tree, and each node is the first of its own. What one arc does, and where `lead`
 -- ends: each model arc is in the tree or closes a circuit with earlier ones that are, and the ground arcs in the tree are those
 -- of the first nodes.
-use Rattle.std.proofs.Common.{◌≡◌, ◌≢◌, ◌⊎◌, ◌↔◌, ℕ, zero, suc, ◌+◌, ◌-◌, ◌<◌, ◌≤◌, ◌==◌, cond, ℤ, pos, negsuc, ◌-ℤ◌, ◌*ℤ◌, neg_ℤ, List, [], ◌∷◌, length, set, refl, sym, ap, ap₂, ◌∙◌, ⊎_elim, inl, inr, eq-eqb, length-set, arith}
+use Rattle.std.proofs.Common.{◌≡◌, ◌≢◌, ◌⊎◌, ◌↔◌, ℕ, ◌+◌, ◌-◌, ◌<◌, ◌≤◌, ℤ, pos, List, [], length, set, refl, sym, ap, ◌∙◌, ⊎_elim, inl, inr, arith}
 use Rattle.std.proofs.lemmas.Int.{ints}
-use Rattle.std.proofs.lemmas.Bool.{cases_eq, cases_lt, ne_eqb}
-use Rattle.theory.specs.declared.network.Step.{Step}
+use Rattle.std.proofs.lemmas.Bool.{cases_eq}
 use Rattle.theory.specs.Network.{Network, IsNetwork, tail, head}
-use Rattle.theory.specs.Circuit.{step, IsCircuit}
-use Rattle.theory.specs.Tucker.{HasArc, Leads, GoesOver}
-use Rattle.tucker_tableau.specs.Tableau.{number, IsSplit, IsLawful}
-use Rattle.tucker_tableau.specs.Table.{Table, entry}
-use Rattle.tucker_tableau.specs.Lead.{IsModelNetwork, arc_of, Closes, Connects, IsLed, NoGround, IsGreatest, part, IsLedTo}
+use Rattle.theory.specs.Tucker.{HasArc}
+use Rattle.tucker_tableau.specs.Tableau.{number, IsLawful}
+use Rattle.tucker_tableau.specs.Lead.{IsModelNetwork, arc_of, Closes, IsLed, IsLedTo}
 use Rattle.tucker_tableau.proofs.Paths.{path, Each-at, leads-way, level-leads}
 use Rattle.tucker_tableau.proofs.Bridge.{is_tree}
-use Rattle.tucker_tableau.proofs.Leading.{ground_entry, mark, mark-hit, mark-miss, taken_over, led-passed, led-taken, IsMerge}
+use Rattle.tucker_tableau.proofs.Leading.{ground_entry, mark-hit, mark-miss, taken_over, led-passed, led-taken}
 
 -- ---- the start
 

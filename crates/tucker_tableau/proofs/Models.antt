@@ -1,7 +1,7 @@
 -- The grounded network of a model is one whose model arcs `lead` can take: they join nodes above the ground.
-use Rattle.std.proofs.Common.{◌≡◌, ℕ, ◌+◌, ◌-◌, ◌<◌, ◌≤◌, length, sym, ap, ◌∙◌, subst, arith}
+use Rattle.std.proofs.Common.{◌≡◌, ℕ, ◌+◌, ◌-◌, ◌<◌, ◌≤◌, length, ap, arith}
 use Rattle.std.specs.Prelude.{[], pos}
-use Rattle.theory.specs.Network.{Network, IsNetwork, tail, head}
+use Rattle.theory.specs.Network.{tail, head}
 use Rattle.theory.specs.Grounded.{Entries, ArcEntry, grounded}
 use Rattle.theory.proofs.GroundedLaw.{length-grounded_arcs, tail-ground, head-ground, tail-model, head-model}
 use Rattle.tucker_tableau.specs.Lead.{IsModelNetwork}

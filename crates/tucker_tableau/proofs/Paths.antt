@@ -3,7 +3,7 @@
 -- on the list: if they are of one part without the first arc, by the path there; else the first arc joins their two parts, and
 -- the path goes to one of its ends, over it, and on from the other. Its two halves lie in different parts, so no node and no
 -- arc comes twice. No walk has to be shortened.
-use Rattle.std.proofs.Common.{◌≡◌, ◌≢◌, ◌⊎◌, ℕ, zero, suc, ◌+◌, ◌<◌, ◌≤◌, ◌==◌, cond, Bool, true, false, List, [], ◌∷◌, ◌++◌, length, refl, sym, ap, ◌∙◌, ⊎_elim, inl, inr, eq-eqb, arith}
+use Rattle.std.proofs.Common.{◌≡◌, ◌≢◌, ℕ, zero, suc, ◌<◌, ◌==◌, cond, Bool, true, false, List, [], ◌∷◌, ◌++◌, length, refl, sym, ap, ◌∙◌, ⊎_elim, eq-eqb, arith}
 use Rattle.std.proofs.lemmas.Bool.{cases_eq, ne_eqb}
 use Rattle.theory.specs.declared.network.Step.{Step}
 use Rattle.theory.specs.Sums.{Each}

@@ -1,7 +1,7 @@
 -- Whole tables: what a pivot makes of one, and one arc further in `lead`.
-use Rattle.std.proofs.Common.{◌≡◌, ◌≢◌, ◌⊎◌, ◌↔◌, ℕ, zero, suc, ◌+◌, ◌*◌, ◌/◌, ◌%◌, ◌<◌, ◌≤◌, ◌-◌, ◌==◌, nat_lt, Bool, true, false, cond, ℤ, pos, negsuc, ◌*ℤ◌, ◌-ℤ◌, List, length, set, get_or, refl, sym, ap, ap₂, ◌∙◌, subst, ⊎_elim, inl, inr, length-set, arith}
+use Rattle.std.proofs.Common.{◌≡◌, ◌≢◌, ◌↔◌, ℕ, ◌+◌, ◌*◌, ◌/◌, ◌%◌, ◌<◌, ◌≤◌, ◌-◌, ◌==◌, nat_lt, Bool, true, false, cond, ℤ, pos, ◌*ℤ◌, ◌-ℤ◌, List, length, set, get_or, refl, sym, ap, ap₂, ◌∙◌, subst, ⊎_elim, length-set, arith}
 use Rattle.std.proofs.lemmas.Int.{ints}
-use Rattle.std.proofs.lemmas.Bool.{cases_lt, lt-ltb}
+use Rattle.std.proofs.lemmas.Bool.{lt-ltb}
 use Rattle.std.proofs.lemmas.List.{same_lists, get_or_default}
 use Rattle.std.proofs.lemmas.Nat.{row_fits, div_below}
 use Rattle.theory.specs.Limits.{IsWithin}

@@ -1,4 +1,3 @@
-use Rattle.std.proofs.Common.{rules}
 use Rattle.tucker_tableau.proofs.Cells.{rows-more, rows-skip}
 use Rattle.tucker_tableau.proofs.entries.exchange_entries.Goals as goal
 use Rattle.tucker_tableau.proofs.entries.exchange_entries.Goals.{then-i-r, else-i-r}

@@ -1,4 +1,4 @@
-use Rattle.std.proofs.Common.{◌≡◌, ℕ, ◌-◌, ◌*◌, ◌∙◌, ap, length}
+use Rattle.std.proofs.Common.{◌≡◌, ◌-◌, ◌*◌, ap, length}
 use Rattle.tucker_tableau.specs.Table.{Table}
 use Rattle.tucker_tableau.specs.First.{IsFirst}
 use Rattle.tucker_tableau.specs.Kept.{IsCounting}
