@@ -3,20 +3,19 @@
 -- on a row either: there is no such circuit. The circuit that a column's arc closes has 1 on that column and none on the
 -- others, so on each row it has the entry, which is therefore 1, -1 or 0. The number of a node's part is a potential that
 -- rises along no row's arc, so all nodes are of one part, and paths lead everywhere.
-use Rattle.std.proofs.Common.{◌≡◌, ◌≢◌, ◌⊎◌, ℕ, zero, suc, ◌+◌, ◌<◌, ◌≤◌, ◌==◌, ℤ, pos, negsuc, ◌+ℤ◌, ◌-ℤ◌, ◌*ℤ◌, neg_ℤ, cond, Bool, true, false, List, [], ◌∷◌, length, refl, sym, ap, ap₂, ◌∙◌, subst, ⊎_elim, inl, inr, eq-eqb, arith}
+use Rattle.std.proofs.Common.{◌≡◌, ◌≢◌, ℕ, suc, ◌<◌, ◌≤◌, ◌==◌, ℤ, pos, ◌-ℤ◌, ◌*ℤ◌, cond, Bool, true, false, List, [], ◌∷◌, length, sym, ap, ◌∙◌, subst, ⊎_elim, eq-eqb, arith}
 use Rattle.std.proofs.lemmas.Int.{ints}
 use Rattle.std.proofs.lemmas.Bool.{cases_eq, cases_lt, ne_eqb}
 use Rattle.theory.specs.declared.network.Step.{Step}
-use Rattle.theory.specs.Sums.{sum_below, counted, Each}
+use Rattle.theory.specs.Sums.{counted}
 use Rattle.theory.specs.Network.{Network, IsNetwork, tail, head}
-use Rattle.theory.specs.Conserved.{IsConserved, tension}
-use Rattle.theory.specs.Circuit.{step, begin_of, end_of, IsCircuit, WalkIsThere}
+use Rattle.theory.specs.Circuit.{step, end_of, IsCircuit, WalkIsThere}
 use Rattle.theory.specs.Tucker.{HasArc, GoesOver, Leads, IsSpanningTree, IsCircuitOf, IsTuckerEntry, passing}
 use Rattle.theory.proofs.Rings.{rings}
 use Rattle.theory.proofs.SumsBelow.{sum_below-same, sum_below-zero, sum_below-pick}
-use Rattle.tucker_tableau.specs.Tableau.{number, FlowLaw, Spans, IsSplit, IsLawful, IsTuckerTableau}
+use Rattle.tucker_tableau.specs.Tableau.{number, Spans, IsLawful, IsTuckerTableau}
 use Rattle.tucker_tableau.specs.Lead.{part}
-use Rattle.tucker_tableau.proofs.Paths.{part-level, path, Path, Each-at, leads-way, level-leads}
+use Rattle.tucker_tableau.proofs.Paths.{part-level, path, Each-at, leads-way}
 use Rattle.tucker_tableau.proofs.Circuits.{uses, circuit_flow, uses-none, uses-passing, IsUnit, passing-unit, passing-step, passing-first, circuit_of, after}
 
 -- ---- the tree
@@ -57,8 +56,8 @@ is_tree net rows columns a lawful =
       differ = split.rows_differ;
       no_circuit = no_circuit net rows columns a lawful;
       joins_all = λ k l. (
-        let p = path net rows 0 k split.rows_differ (one_part net rows lawful.spans k l) in
-        (p.0, Each-at (λ s. HasArc rows s.arc.0) p.0 p.1.over, leads-way net 0 k p.0 p.1.way));
+          let p = path net rows 0 k split.rows_differ (one_part net rows lawful.spans k l) in
+          (p.0, Each-at (λ s. HasArc rows s.arc.0) p.0 p.1.over, leads-way net 0 k p.0 p.1.way));
     }
 
 -- ---- the entries
@@ -93,6 +92,7 @@ entry_each net rows columns a lawful i j row column walk of =
   where
     once : (x : ℤ) → x *ℤ pos 1 ≡ x
     once x = omega (arith, rings)
+
     nothing : (x : ℤ) → x *ℤ pos 0 ≡ pos 0
     nothing x = omega (arith, rings)
 

@@ -1,7 +1,7 @@
 -- Places of a list that has rows: two places are one exactly where their rows and columns are. What a write changes.
-use Rattle.std.proofs.Common.{◌≡◌, ◌≢◌, ◌⊎◌, ℕ, zero, suc, ◌-◌, ◌==◌, ◌&&◌, ◌+◌, ◌*◌, ◌<◌, ◌≤◌, ◌^◌, ℤ, pos, negsuc, ◌+ℤ◌, ◌-ℤ◌, ◌*ℤ◌, neg_ℤ, List, length, set, get_or, refl, sym, ap, ap₂, ◌∙◌, ⊎_elim, eq-eqb, length-set, get_or-set_same, get_or-set_other, FitsSigned, to_z, of_z, arith}
+use Rattle.std.proofs.Common.{◌≡◌, ◌≢◌, ℕ, zero, suc, ◌-◌, ◌+◌, ◌*◌, ◌<◌, ◌≤◌, ◌^◌, ℤ, pos, ◌-ℤ◌, ◌*ℤ◌, neg_ℤ, List, length, set, refl, sym, ap, ap₂, ◌∙◌, ⊎_elim, eq-eqb, length-set, get_or-set_same, get_or-set_other, FitsSigned, to_z, of_z, arith}
 use Rattle.std.specs.Int.{w8}
-use Rattle.std.proofs.lemmas.Int.{ints, to_z-of_z, fits_signed_from_abs}
+use Rattle.std.proofs.lemmas.Int.{to_z-of_z, fits_signed_from_abs}
 use Rattle.std.proofs.lemmas.Bool.{cases_eq, ne_eqb}
 use Rattle.std.proofs.lemmas.Nat.{same_from_place}
 use Rattle.theory.specs.Limits.{IsWithin}
@@ -55,9 +55,9 @@ less-more width old now r i factor j z room apart there state is =
     record {
       size = length-set now (i * width + j) z ∙ state.size;
       done = λ m l h. ⊎_elim
-        (λ (e : m ≡ j).
-        rw e (cell-set_same now width i j z room' there ∙ is ∙ ap₂ (λ v w. v -ℤ factor *ℤ w) (state.later j there (omega arith)) (state.others r j (λ f. apart (sym f)) there)))
-        (λ (ne : m ≡ j → ⊥). cell-set_other now width i j i m z there l (λ e f. ne f) ∙ state.done m l (omega arith)) (cases_eq m j);
+          (λ (e : m ≡ j).
+          rw e (cell-set_same now width i j z room' there ∙ is ∙ ap₂ (λ v w. v -ℤ factor *ℤ w) (state.later j there (omega arith)) (state.others r j (λ f. apart (sym f)) there)))
+          (λ (ne : m ≡ j → ⊥). cell-set_other now width i j i m z there l (λ e f. ne f) ∙ state.done m l (omega arith)) (cases_eq m j);
       later = λ m l h. cell-set_other now width i j i m z there l (λ e f. omega arith) ∙ state.later m l (omega arith);
       others = λ k m ne l. cell-set_other now width i j k m z there l (λ e f. ne e) ∙ state.others k m ne l;
     }
@@ -70,8 +70,8 @@ scaled-more width old now r p j z room there state is =
     record {
       size = length-set now (r * width + j) z ∙ state.size;
       done = λ m l h. ⊎_elim
-        (λ (e : m ≡ j). rw e (cell-set_same now width r j z room' there ∙ is ∙ ap (λ v. neg_ℤ (p *ℤ v)) (state.later j there (omega arith))))
-        (λ (ne : m ≡ j → ⊥). cell-set_other now width r j r m z there l (λ e f. ne f) ∙ state.done m l (omega arith)) (cases_eq m j);
+          (λ (e : m ≡ j). rw e (cell-set_same now width r j z room' there ∙ is ∙ ap (λ v. neg_ℤ (p *ℤ v)) (state.later j there (omega arith))))
+          (λ (ne : m ≡ j → ⊥). cell-set_other now width r j r m z there l (λ e f. ne f) ∙ state.done m l (omega arith)) (cases_eq m j);
       later = λ m l h. cell-set_other now width r j r m z there l (λ e f. omega arith) ∙ state.later m l (omega arith);
       others = λ k m ne l. cell-set_other now width r j k m z there l (λ e f. ne e) ∙ state.others k m ne l;
     }
@@ -85,9 +85,9 @@ row-pivoted width old mid r s i factor z room apart there state is written =
     record {
       size = length-set mid (i * width + s) z ∙ state.size;
       done = λ j l. ⊎_elim
-        (λ (e : j ≡ s). ap (cell (set mid (i * width + s) z) width i) e ∙ cell-set_same mid width i s z room' there ∙ written ∙ is ∙ sym (pivoted-column a r s i j apart e))
-        (λ (ne : j ≡ s → ⊥).
-        cell-set_other mid width i s i j z there l (λ e f. ne f) ∙ state.done j l l ∙ ap (λ v. a i j -ℤ v *ℤ a r j) is ∙ sym (pivoted-other a r s i j apart ne)) (cases_eq j s);
+          (λ (e : j ≡ s). ap (cell (set mid (i * width + s) z) width i) e ∙ cell-set_same mid width i s z room' there ∙ written ∙ is ∙ sym (pivoted-column a r s i j apart e))
+          (λ (ne : j ≡ s → ⊥).
+          cell-set_other mid width i s i j z there l (λ e f. ne f) ∙ state.done j l l ∙ ap (λ v. a i j -ℤ v *ℤ a r j) is ∙ sym (pivoted-other a r s i j apart ne)) (cases_eq j s);
       others = λ k j ne l. cell-set_other mid width i s k j z there l (λ e f. ne e) ∙ state.others k j ne l;
     }
 
@@ -97,15 +97,17 @@ row-untouched width old r s i apart none =
     record {
       size = refl;
       done = λ j l. sym (⊎_elim
-        (λ (e : j ≡ s). pivoted-column a r s i j apart e ∙ ap (λ v. a r s *ℤ v) none ∙ nothing (a r s) ∙ sym none ∙ ap (a i) (sym e))
-        (λ (ne : j ≡ s → ⊥). pivoted-other a r s i j apart ne ∙ ap (λ v. a i j -ℤ (a r s *ℤ v) *ℤ a r j) none ∙ no_less (a i j) (a r s) (a r j)) (cases_eq j s));
+          (λ (e : j ≡ s). pivoted-column a r s i j apart e ∙ ap (λ v. a r s *ℤ v) none ∙ nothing (a r s) ∙ sym none ∙ ap (a i) (sym e))
+          (λ (ne : j ≡ s → ⊥). pivoted-other a r s i j apart ne ∙ ap (λ v. a i j -ℤ (a r s *ℤ v) *ℤ a r j) none ∙ no_less (a i j) (a r s) (a r j)) (cases_eq j s));
       others = λ k j ne l. refl;
     }
   where
     nothing : (x : ℤ) → x *ℤ pos 0 ≡ pos 0
     nothing x = omega (arith, rings)
+
     zero_times : (x y : ℤ) → x -ℤ pos 0 *ℤ y ≡ x
     zero_times x y = omega (arith, rings)
+
     no_less : (x p y : ℤ) → x -ℤ (p *ℤ pos 0) *ℤ y ≡ x
     no_less x p y = ap (λ v. x -ℤ v *ℤ y) (nothing p) ∙ zero_times x y
 
@@ -126,9 +128,9 @@ rows-more width old now new r s i column apart state row =
     record {
       size = row.size ∙ state.size;
       done = λ k j l ne h. ⊎_elim
-        (λ (e : k ≡ i).
-        rw e (row.done j h ∙ pivoted-same (cell now width) (cell old width) r s i j (state.pivot_row s column) (state.pivot_row j h) (state.later i s (omega arith) column) (state.later i j (omega arith) h)))
-        (λ (off : k ≡ i → ⊥). row.others k j off h ∙ state.done k j (omega arith) ne h) (cases_eq k i);
+          (λ (e : k ≡ i).
+          rw e (row.done j h ∙ pivoted-same (cell now width) (cell old width) r s i j (state.pivot_row s column) (state.pivot_row j h) (state.later i s (omega arith) column) (state.later i j (omega arith) h)))
+          (λ (off : k ≡ i → ⊥). row.others k j off h ∙ state.done k j (omega arith) ne h) (cases_eq k i);
       later = λ k j l h. row.others k j (λ e. omega arith) h ∙ state.later k j (omega arith) h;
       pivot_row = λ j h. row.others r j (λ e. apart (sym e)) h ∙ state.pivot_row j h;
     }
@@ -150,15 +152,15 @@ marked width old node column value z above room there written =
     record {
       size = length-set old (row * width + column) z;
       cells = λ i j l. ⊎_elim
-        (λ (e : node ≡ i + 1).
-        let at_row : i ≡ row = omega arith in
-        ⊎_elim
-        (λ (f : j ≡ column).
-        rw (eq-eqb node (i + 1) e, eq-eqb j column f) (ap₂ (cell (set old (row * width + column) z) width) at_row f ∙ cell-set_same old width row column z fits there ∙ written))
-        (λ (ne : j ≡ column → ⊥). rw (eq-eqb node (i + 1) e, ne_eqb j column ne) (cell-set_other old width row column i j z there l (λ g h. ne h)))
-        (cases_eq j column))
-        (λ (ne : node ≡ i + 1 → ⊥). rw (ne_eqb node (i + 1) ne) (cell-set_other old width row column i j z there l (λ g h. ne (omega arith))))
-        (cases_eq node (i + 1));
+          (λ (e : node ≡ i + 1).
+          let at_row : i ≡ row = omega arith in
+          ⊎_elim
+          (λ (f : j ≡ column).
+          rw (eq-eqb node (i + 1) e, eq-eqb j column f) (ap₂ (cell (set old (row * width + column) z) width) at_row f ∙ cell-set_same old width row column z fits there ∙ written))
+          (λ (ne : j ≡ column → ⊥). rw (eq-eqb node (i + 1) e, ne_eqb j column ne) (cell-set_other old width row column i j z there l (λ g h. ne h)))
+          (cases_eq j column))
+          (λ (ne : node ≡ i + 1 → ⊥). rw (ne_eqb node (i + 1) ne) (cell-set_other old width row column i j z there l (λ g h. ne (omega arith))))
+          (cases_eq node (i + 1));
     }
   where
     one_less : (node width : ℕ) → 0 < node → node * width ≤ length old → (node - 1) * width + width ≤ length old

@@ -2,7 +2,7 @@
 -- is conserved, since each step brings to a node what the next one takes from it; and it passes each arc at most once, so the
 -- flow on an arc says how the circuit passes it. A path over the rows from the head of an arc back to its tail, after the arc
 -- itself, is the circuit that the arc closes.
-use Rattle.std.proofs.Common.{◌≡◌, ◌≢◌, ◌⊎◌, ℕ, zero, suc, ◌+◌, ◌<◌, ◌≤◌, ◌==◌, ℤ, pos, negsuc, ◌+ℤ◌, ◌-ℤ◌, ◌*ℤ◌, neg_ℤ, cond, Bool, true, false, List, [], ◌∷◌, length, refl, sym, ap, ap₂, ◌∙◌, ⊎_elim, inl, inr, eq-eqb, arith}
+use Rattle.std.proofs.Common.{◌≡◌, ◌≢◌, ℕ, zero, suc, ◌+◌, ◌<◌, ◌==◌, ℤ, pos, negsuc, ◌+ℤ◌, ◌-ℤ◌, cond, Bool, true, false, List, [], ◌∷◌, length, refl, sym, ap, ◌∙◌, ⊎_elim, eq-eqb, arith}
 use Rattle.std.proofs.lemmas.Int.{ints}
 use Rattle.std.proofs.lemmas.Bool.{cases_eq, ne_eqb}
 use Rattle.theory.specs.declared.network.Step.{Step}
@@ -11,12 +11,10 @@ use Rattle.theory.specs.Network.{Network, tail, head}
 use Rattle.theory.specs.Conserved.{IsConserved, outflow, inflow}
 use Rattle.theory.specs.Circuit.{step, begin_of, end_of, IsCircuit, WalkIsThere}
 use Rattle.theory.specs.Tucker.{HasArc, IsCircuitOf, passing}
-use Rattle.theory.proofs.Rings.{rings}
 use Rattle.theory.proofs.Sums.{Each-map}
 use Rattle.theory.proofs.SumsBelow.{sum_below-same, sum_below-zero, sum_below-add, sum_below-pick, counted-add}
 use Rattle.theory.proofs.Unbounded.{mark_of}
 use Rattle.theory.proofs.Refusals.{around}
-use Rattle.tucker_tableau.specs.Tableau.{number}
 use Rattle.tucker_tableau.proofs.Paths.{AllDiffer, IsWay, IsPath, Each-at}
 
 -- ---- the flow round a walk
@@ -129,6 +127,7 @@ passing-step (s ∷ walk) k q l e =
     by_direction : (forward : Bool) → cond forward (pos 1) (negsuc 0) ≢ pos 0
     by_direction true h = omega (arith, ints)
     by_direction false h = omega (arith, ints)
+
     later : (k : ℕ) → k < length (s ∷ walk) → (step (s ∷ walk) k).arc.0 ≡ q → (s.arc.0 ≡ q → ⊥)
         → ((i : ℕ) → i < length walk → (step walk i).arc.0 ≡ q → passing walk q ≢ pos 0) → passing walk q ≢ pos 0
     later zero l e ne rest = absurd (ne e)
@@ -148,9 +147,10 @@ differ-at f (s ∷ walk) all (suc i) (suc k) l m = differ-at f walk all.1 i k (o
 
 begins-differ : (net : Network) (a b : ℕ) (walk : List Step) → IsWay net a walk b → AllDiffer (begin_of net) walk
 begins-differ net a b [] way = tt
-begins-differ net a b (s ∷ walk) way =
-    (Each-map (λ t. begin_of net t ≢ a) (λ t. begin_of net t ≢ begin_of net s) walk (λ t ne e. ne (e ∙ way.0)) way.2,
-      begins-differ net (end_of net s) b walk way.3)
+begins-differ net a b (s ∷ walk) way = (
+  Each-map (λ t. begin_of net t ≢ a) (λ t. begin_of net t ≢ begin_of net s) walk (λ t ne e. ne (e ∙ way.0)) way.2,
+  begins-differ net (end_of net s) b walk way.3,
+)
 
 begins-off : (net : Network) (a b : ℕ) (walk : List Step) → IsWay net a walk b → Each (λ t. begin_of net t ≢ b) walk
 begins-off net a b [] way = tt
@@ -185,7 +185,7 @@ circuit_of net arcs j walk path off =
         closed = closed-at net (tail net j) s walk path.way;
         nodes_differ = differ-at (begin_of net) (s ∷ walk) (begins-off net (head net j) (tail net j) walk path.way, begins-differ net (head net j) (tail net j) walk path.way);
         arcs_differ = differ-at (λ t. t.arc.0) (s ∷ walk)
-          (Each-map (λ t. HasArc arcs t.arc.0) (λ t. t.arc.0 ≢ j) walk (λ t h e. off (record { place = h.place; there = h.there; is = h.is ∙ e })) path.over, path.differ);
+            (Each-map (λ t. HasArc arcs t.arc.0) (λ t. t.arc.0 ≢ j) walk (λ t h e. off (record { place = h.place; there = h.there; is = h.is ∙ e })) path.over, path.differ);
       };
       begins = refl;
       goes_on = goes;

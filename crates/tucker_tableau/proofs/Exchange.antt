@@ -1,12 +1,12 @@
 -- A pivot keeps the laws. The two arcs change places, so each arc is still a row or a column, once. The laws are those of sums
 -- in Pivots. A potential that rises along no new row's arc rises along none of the old ones either: on the column's arc the
 -- tension law leaves one product, p times the rise along the arc that left, and p * p = 1.
-use Rattle.std.proofs.Common.{◌≡◌, ◌≢◌, ◌⊎◌, ℕ, ◌+◌, ◌<◌, ◌≤◌, ◌==◌, ℤ, pos, ◌-ℤ◌, ◌*ℤ◌, neg_ℤ, List, length, set, get_or, refl, sym, ap, ap₂, ◌∙◌, subst, ⊎_elim, inl, inr, eq-eqb, length-set, get_or-set_same, get_or-set_other, arith}
+use Rattle.std.proofs.Common.{◌≡◌, ◌≢◌, ℕ, ◌<◌, ◌≤◌, ℤ, pos, ◌-ℤ◌, ◌*ℤ◌, neg_ℤ, List, length, set, get_or, refl, sym, ap, ap₂, ◌∙◌, ⊎_elim, inl, inr, eq-eqb, length-set, get_or-set_same, get_or-set_other, arith}
 use Rattle.std.proofs.lemmas.Bool.{cases_eq, cases_lt, ne_eqb}
 use Rattle.std.proofs.lemmas.List.{same_lists, get_or_default}
 use Rattle.theory.specs.Sums.{sum_below}
 use Rattle.theory.specs.Network.{Network}
-use Rattle.theory.specs.Conserved.{IsConserved, tension}
+use Rattle.theory.specs.Conserved.{tension}
 use Rattle.theory.specs.Tucker.{HasArc}
 use Rattle.theory.proofs.Rings.{rings}
 use Rattle.theory.proofs.SumsBelow.{sum_below-same}
@@ -83,18 +83,18 @@ split_pivoted net rows columns r s split row column =
       rows_differ = differ_set rows r into row split.rows_differ row_among;
       columns_differ = differ_set columns s out column split.columns_differ column_among;
       apart = λ i j l m. each_set rows r into (λ i k. k ≢ number (set columns s out) j) row
-        (each_set columns s out (λ j k. into ≢ k) column (λ e. row_among r row (sym e)) (λ j l ne e. differ_either columns split.columns_differ s j column l (λ f. ne (sym f)) e) j m)
-        (λ i l ne. each_set columns s out (λ j k. number rows i ≢ k) column (differ_either rows split.rows_differ i r l row ne) (λ j l2 ne2. split.apart i j l l2) j m)
-        i l;
+          (each_set columns s out (λ j k. into ≢ k) column (λ e. row_among r row (sym e)) (λ j l ne e. differ_either columns split.columns_differ s j column l (λ f. ne (sym f)) e) j m)
+          (λ i l ne. each_set columns s out (λ j k. number rows i ≢ k) column (differ_either rows split.rows_differ i r l row ne) (λ j l2 ne2. split.apart i j l l2) j m)
+          i l;
       size = rw (length-set rows r into, length-set columns s out) split.size;
       every = λ k l. ⊎_elim
-        (λ (h : HasArc rows k).
-        ⊎_elim (λ (e : h.place ≡ r). inr (has_new columns s out k column (ap (number rows) (sym e) ∙ h.is)))
-        (λ (ne : h.place ≡ r → ⊥). inl (has_kept rows r into k h ne)) (cases_eq h.place r))
-        (λ (h : HasArc columns k).
-        ⊎_elim (λ (e : h.place ≡ s). inl (has_new rows r into k row (ap (number columns) (sym e) ∙ h.is)))
-        (λ (ne : h.place ≡ s → ⊥). inr (has_kept columns s out k h ne)) (cases_eq h.place s))
-        (split.every k l);
+          (λ (h : HasArc rows k).
+          ⊎_elim (λ (e : h.place ≡ r). inr (has_new columns s out k column (ap (number rows) (sym e) ∙ h.is)))
+          (λ (ne : h.place ≡ r → ⊥). inl (has_kept rows r into k h ne)) (cases_eq h.place r))
+          (λ (h : HasArc columns k).
+          ⊎_elim (λ (e : h.place ≡ s). inl (has_new rows r into k row (ap (number columns) (sym e) ∙ h.is)))
+          (λ (ne : h.place ≡ s → ⊥). inr (has_kept columns s out k h ne)) (cases_eq h.place s))
+          (split.every k l);
     }
   where
     differ_either : (arcs : List ℕ) → ((i k : ℕ) → i < k → k < length arcs → number arcs i ≢ number arcs k)
@@ -194,9 +194,9 @@ lawful_same net rows columns a b same lawful =
       split = lawful.split;
       spans = lawful.spans;
       flow_law = λ x conserved i l. lawful.flow_law x conserved i l
-        ∙ sum_below-same (length columns) (λ j. a i j *ℤ x (number columns j)) (λ j. b i j *ℤ x (number columns j)) (λ j m. ap (λ w. w *ℤ x (number columns j)) (sym (same i j l m)));
+          ∙ sum_below-same (length columns) (λ j. a i j *ℤ x (number columns j)) (λ j. b i j *ℤ x (number columns j)) (λ j m. ap (λ w. w *ℤ x (number columns j)) (sym (same i j l m)));
       tension_law = λ u j m. lawful.tension_law u j m
-        ∙ ap neg_ℤ (sum_below-same (length rows) (λ i. a i j *ℤ tension net u (number rows i)) (λ i. b i j *ℤ tension net u (number rows i)) (λ i l. ap (λ w. w *ℤ tension net u (number rows i)) (sym (same i j l m))));
+          ∙ ap neg_ℤ (sum_below-same (length rows) (λ i. a i j *ℤ tension net u (number rows i)) (λ i. b i j *ℤ tension net u (number rows i)) (λ i l. ap (λ w. w *ℤ tension net u (number rows i)) (sym (same i j l m))));
     }
 
 -- ---- the same pivot again
@@ -209,6 +209,7 @@ twice p q e x square =
   where
     swap : (p e q : ℤ) → (p *ℤ e) *ℤ q ≡ e *ℤ (p *ℤ q)
     swap p e q = omega (arith, rings)
+
     same : (e w x : ℤ) → (x -ℤ e *ℤ w) -ℤ e *ℤ neg_ℤ w ≡ x
     same e w x = omega (arith, rings)
 

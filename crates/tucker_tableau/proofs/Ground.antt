@@ -1,17 +1,16 @@
 -- The ground arcs are the first tree. At node i + 1 the ground arc i brings what the other arcs take away, which is the flow
 -- law. From the ground the potential rises along the ground arc of a node to that of the node, so the rise along another arc is
 -- that of its head's ground arc less that of its tail's, which is the tension law.
-use Rattle.std.proofs.Common.{◌≡◌, ◌≢◌, ◌⊎◌, ℕ, zero, suc, ◌+◌, ◌-◌, ◌<◌, ◌≤◌, ◌==◌, ℤ, pos, negsuc, ◌+ℤ◌, ◌-ℤ◌, ◌*ℤ◌, neg_ℤ, Bool, true, false, List, length, refl, sym, ap, ap₂, ◌∙◌, subst, ⊎_elim, inl, inr, eq-eqb, arith}
+use Rattle.std.proofs.Common.{◌≡◌, ◌≢◌, ℕ, zero, suc, ◌+◌, ◌-◌, ◌<◌, ◌≤◌, ◌==◌, ℤ, pos, ◌+ℤ◌, ◌-ℤ◌, ◌*ℤ◌, neg_ℤ, Bool, true, false, length, refl, sym, ap, ap₂, ◌∙◌, ⊎_elim, inl, inr, eq-eqb, arith}
 use Rattle.std.proofs.lemmas.Int.{ints}
 use Rattle.std.proofs.lemmas.Bool.{cases_eq, cases_lt, ne_eqb}
 use Rattle.theory.specs.Sums.{sum_below, counted}
 use Rattle.theory.specs.Network.{Network, IsNetwork, tail, head}
 use Rattle.theory.specs.Conserved.{IsConserved, tension}
-use Rattle.theory.specs.Tucker.{HasArc}
 use Rattle.theory.proofs.Rings.{rings}
-use Rattle.theory.proofs.SumsBelow.{sum_below-same, sum_below-zero, sum_below-add, sum_below-sub, sum_below-front, sum_below-pick}
-use Rattle.tucker_tableau.specs.Tableau.{number, FlowLaw, TensionLaw, Spans, IsSplit, IsLawful}
-use Rattle.tucker_tableau.specs.Table.{Table, entry}
+use Rattle.theory.proofs.SumsBelow.{sum_below-same, sum_below-zero, sum_below-sub, sum_below-front, sum_below-pick}
+use Rattle.tucker_tableau.specs.Tableau.{number, IsLawful}
+use Rattle.tucker_tableau.specs.Table.{Table}
 use Rattle.tucker_tableau.specs.First.{star, IsFirst}
 
 -- arc i runs from the ground to node i + 1
@@ -86,35 +85,38 @@ first_lawful net table good ground first =
         apart = λ i j l h same. let e = row i l in let f = column j h in omega arith;
         size = first.column_count;
         every = λ k l. ⊎_elim
-          (λ (below : k < n). inl (record { place = k; there = below; is = row k below }))
-          (λ (above : n ≤ k).
-          let at : k - n < m = let c = first.column_count in omega arith in
-          inr (record { place = k - n; there = at; is = column (k - n) at ∙ back n k above })) (cases_lt k n);
+            (λ (below : k < n). inl (record { place = k; there = below; is = row k below }))
+            (λ (above : n ≤ k).
+            let at : k - n < m = let c = first.column_count in omega arith in
+            inr (record { place = k - n; there = at; is = column (k - n) at ∙ back n k above })) (cases_lt k n);
       };
       spans = λ u level k l. ⊎_elim
-        (λ (later : 0 < k).
-        let i = k - 1 in
-        let low : i < n = let e = first.row_count in omega arith in
-        let rise : tension net u i ≡ pos 0 = ap (tension net u) (sym (row i low)) ∙ level i low in
-        let at_head : u (head net i) ≡ u k = ap u (ground.heads i low ∙ up k later) in
-        let at_tail : u (tail net i) ≡ u 0 = ap u (ground.tails i low) in
-        omega (arith, ints))
-        (λ (begin : k ≤ 0). let e : k ≡ 0 = omega arith in ap u e) (cases_lt 0 k);
+          (λ (later : 0 < k).
+          let i = k - 1 in
+          let low : i < n = let e = first.row_count in omega arith in
+          let rise : tension net u i ≡ pos 0 = ap (tension net u) (sym (row i low)) ∙ level i low in
+          let at_head : u (head net i) ≡ u k = ap u (ground.heads i low ∙ up k later) in
+          let at_tail : u (tail net i) ≡ u 0 = ap u (ground.tails i low) in
+          omega (arith, ints))
+          (λ (begin : k ≤ 0). let e : k ≡ 0 = omega arith in ap u e) (cases_lt 0 k);
       flow_law = λ x conserved i l.
-        ap x (row i l) ∙ at_node net n m i x ground first.column_count conserved l
-        ∙ sum_below-same m (λ j. star net n i j *ℤ x (n + j)) (λ j. star net n i j *ℤ x (number table.columns j)) (λ j h. ap (λ k. star net n i j *ℤ x k) (sym (column j h)));
+          ap x (row i l) ∙ at_node net n m i x ground first.column_count conserved l
+          ∙ sum_below-same m (λ j. star net n i j *ℤ x (n + j)) (λ j. star net n i j *ℤ x (number table.columns j)) (λ j h. ap (λ k. star net n i j *ℤ x k) (sym (column j h)));
       tension_law = λ u j l. tension_first net n (number table.columns j) j u good ground
-        (let e = column j l in let c = first.column_count in omega arith) (column j l)
-        ∙ ap neg_ℤ (sum_below-same n (λ i. star net n i j *ℤ (u (i + 1) -ℤ u 0)) (λ i. star net n i j *ℤ tension net u (number table.rows i))
-        (λ i h. ap (λ w. star net n i j *ℤ w) (sym (ap (tension net u) (row i h) ∙ ap₂ (λ v w. u v -ℤ u w) (ground.heads i h) (ground.tails i h)))));
+          (let e = column j l in let c = first.column_count in omega arith) (column j l)
+          ∙ ap neg_ℤ (sum_below-same n (λ i. star net n i j *ℤ (u (i + 1) -ℤ u 0)) (λ i. star net n i j *ℤ tension net u (number table.rows i))
+          (λ i h. ap (λ w. star net n i j *ℤ w) (sym (ap (tension net u) (row i h) ∙ ap₂ (λ v w. u v -ℤ u w) (ground.heads i h) (ground.tails i h)))));
     }
   where
     back : (n k : ℕ) → n ≤ k → n + (k - n) ≡ k
     back n k h = omega arith
+
     up : (k : ℕ) → 0 < k → (k - 1) + 1 ≡ k
     up k h = omega arith
+
     last : (h t z A B S : ℤ) → A ≡ t -ℤ z → B ≡ h -ℤ z → S ≡ A -ℤ B → h -ℤ t ≡ neg_ℤ S
     last h t z A B S e f g = omega (arith, ints)
+
     tension_first : (net : Network) (n c j : ℕ) (u : ℕ → ℤ) → IsNetwork net → IsGroundedAt net n → c < length net.arcs → c ≡ n + j
         → tension net u c ≡ neg_ℤ (sum_below n (λ i. star net n i j *ℤ (u (i + 1) -ℤ u 0)))
     tension_first net n c j u good ground there e =

@@ -4,22 +4,20 @@
 -- passes, both ends of k have one first node, and a path over the model arcs of the tree closes a circuit with k. Else the two
 -- first nodes are different, their ground arcs are the two rows that pass, and the greater one leaves the tree: the first node
 -- of the nodes that k connects is the other one.
-use Rattle.std.proofs.Common.{◌≡◌, ◌≢◌, ◌⊎◌, ◌↔◌, ℕ, zero, suc, ◌+◌, ◌-◌, ◌<◌, ◌≤◌, ◌==◌, cond, ℤ, pos, negsuc, ◌-ℤ◌, ◌*ℤ◌, neg_ℤ, List, [], ◌∷◌, length, set, refl, sym, ap, ap₂, ◌∙◌, ⊎_elim, inl, inr, eq-eqb, length-set, arith}
+use Rattle.std.proofs.Common.{◌≡◌, ◌≢◌, ◌⊎◌, ℕ, zero, suc, ◌+◌, ◌<◌, ◌≤◌, ◌==◌, cond, ℤ, pos, ◌-ℤ◌, ◌*ℤ◌, neg_ℤ, List, ◌∷◌, length, set, refl, sym, ap, ap₂, ◌∙◌, ⊎_elim, inl, inr, eq-eqb, length-set, arith}
 use Rattle.std.proofs.lemmas.Int.{ints}
 use Rattle.std.proofs.lemmas.Bool.{cases_eq, cases_lt, ne_eqb}
 use Rattle.theory.specs.declared.network.Step.{Step}
-use Rattle.theory.specs.Sums.{sum_below, counted, Each}
-use Rattle.theory.specs.Network.{Network, IsNetwork, tail, head}
+use Rattle.theory.specs.Sums.{counted}
+use Rattle.theory.specs.Network.{Network, tail, head}
 use Rattle.theory.specs.Conserved.{tension}
-use Rattle.theory.specs.Circuit.{step, IsCircuit}
-use Rattle.theory.specs.Tucker.{HasArc, Leads, GoesOver}
+use Rattle.theory.specs.Tucker.{HasArc, GoesOver}
 use Rattle.theory.proofs.Rings.{rings}
-use Rattle.tucker_tableau.specs.Tableau.{number, TensionLaw, IsSplit, IsLawful}
-use Rattle.tucker_tableau.specs.Table.{Table, entry}
-use Rattle.tucker_tableau.specs.Lead.{IsModelNetwork, arc_of, Closes, Connects, IsLed, NoGround, IsGreatest, part, IsLedTo}
+use Rattle.tucker_tableau.specs.Tableau.{number, TensionLaw, IsSplit}
+use Rattle.tucker_tableau.specs.Lead.{IsModelNetwork, arc_of, Closes, part, IsLedTo}
 use Rattle.tucker_tableau.proofs.Pivots.{tension_alone}
 use Rattle.tucker_tableau.proofs.Exchange.{number-same, number-other, has_kept}
-use Rattle.tucker_tableau.proofs.Paths.{part-same, part-tail, part-ends, path, Each-at, leads-way, level-leads}
+use Rattle.tucker_tableau.proofs.Paths.{part-same, part-ends, path, Each-at}
 use Rattle.tucker_tableau.proofs.Circuits.{circuit_of, after}
 
 -- ---- the entries of ground rows
@@ -58,8 +56,10 @@ ground_entry net n rows columns a k i s model law split state row ground column 
   where
     once : (x : ℤ) → x *ℤ pos 1 ≡ x
     once x = omega (arith, rings)
+
     flat : (h t : ℤ) → h ≡ t → h -ℤ t ≡ pos 0
     flat h t e = omega (arith, ints)
+
     rows_apart : (net : Network) (rows columns : List ℕ) → IsSplit net rows columns → (p i : ℕ) → p < length rows → i < length rows → p ≢ i → number rows p ≢ number rows i
     rows_apart net rows columns split p i l m ne e =
         ⊎_elim (λ (below : p < i). split.rows_differ p i below m e) (λ (above : i ≤ p). split.rows_differ i p (omega arith) l (sym e)) (cases_lt p i)
@@ -102,7 +102,7 @@ led-passed net n rows k model_arc state same =
       taken_there = λ i l. (let t = state.taken_there i l in (t.0, omega (arith, t.1), t.2));
       taken_differ = state.taken_differ;
       settled = λ m l h. ⊎_elim (λ (below : m < k). state.settled m l below)
-        (λ (above : k ≤ m). let e : m ≡ k = omega arith in rw e (inr (closes_circuit net n rows k state same))) (cases_lt m k);
+          (λ (above : k ≤ m). let e : m ≡ k = omega arith in rw e (inr (closes_circuit net n rows k state same))) (cases_lt m k);
     }
 
 -- ---- an arc that is taken
@@ -200,66 +200,70 @@ led-taken net n rows columns k r low high split model_arc state row ground at_hi
       least = f';
       taken = k ∷ state.taken;
       lowers = λ v. ⊎_elim
-        (λ (e : f v ≡ high). let l = state.lowers v in let o = merge.order in let h = merged-hit f low high v e in omega arith)
-        (λ (ne : f v ≡ high → ⊥). let l = state.lowers v in let h = merged-miss f low high v ne in omega arith) (cases_eq (f v) high);
+          (λ (e : f v ≡ high). let l = state.lowers v in let o = merge.order in let h = merged-hit f low high v e in omega arith)
+          (λ (ne : f v ≡ high → ⊥). let l = state.lowers v in let h = merged-miss f low high v ne in omega arith) (cases_eq (f v) high);
       again = merged-again f low high (tail net k) (head net k) merge state.again;
       not_ground = λ v one. ⊎_elim
-        (λ (e : f v ≡ high). let o = merge.above_ground in let h = merged-hit f low high v e in omega arith)
-        (λ (ne : f v ≡ high → ⊥). let l = state.not_ground v one in let h = merged-miss f low high v ne in omega arith) (cases_eq (f v) high);
+          (λ (e : f v ≡ high). let o = merge.above_ground in let h = merged-hit f low high v e in omega arith)
+          (λ (ne : f v ≡ high → ⊥). let l = state.not_ground v one in let h = merged-miss f low high v ne in omega arith) (cases_eq (f v) high);
       level = λ i l model. ⊎_elim
-        (λ (e : i ≡ r). rw (number-same rows r k i row e) (merged-ends f low high (tail net k) (head net k) merge))
-        (λ (ne : i ≡ r → ⊥).
-        let same = number-other rows r k i ne in
-        let model_row : n ≤ number rows i = rw same at model in
-        rw same (merged_level f low high (head net (number rows i)) (tail net (number rows i)) (state.level i (old_row i l) model_row)))
-        (cases_eq i r);
-      firsts = λ v l.
-        (λ h. (
-          let left = has_left rows r k v h (λ e. omega arith) row in
-          let first = (state.firsts v l).0 left.0 in
-          merged-miss f low high (v + 1) (λ e. rows_apart split left.0.place r left.0.there row left.1 (let z = left.0.is in omega arith)) ∙ first),
+          (λ (e : i ≡ r). rw (number-same rows r k i row e) (merged-ends f low high (tail net k) (head net k) merge))
+          (λ (ne : i ≡ r → ⊥).
+          let same = number-other rows r k i ne in
+          let model_row : n ≤ number rows i = rw same at model in
+          rw same (merged_level f low high (head net (number rows i)) (tail net (number rows i)) (state.level i (old_row i l) model_row)))
+          (cases_eq i r);
+      firsts = λ v l. (
+        λ h. (
+            let left = has_left rows r k v h (λ e. omega arith) row in
+            let first = (state.firsts v l).0 left.0 in
+            merged-miss f low high (v + 1) (λ e. rows_apart split left.0.place r left.0.there row left.1 (let z = left.0.is in omega arith)) ∙ first),
         λ e. ⊎_elim
-        (λ (hit : f (v + 1) ≡ high).
-        let down = merged-hit f low high (v + 1) hit in
-        let order = merge.order in
-        let most = state.lowers (v + 1) in
-        absurd (omega arith))
-        (λ (miss : f (v + 1) ≡ high → ⊥).
-        let first : f (v + 1) ≡ v + 1 = sym (merged-miss f low high (v + 1) miss) ∙ e in
-        stays rows r k v ((state.firsts v l).1 first) (λ same. miss (first ∙ ap (λ z. z + 1) same ∙ sym at_high))) (cases_eq (f (v + 1)) high));
+            (λ (hit : f (v + 1) ≡ high).
+            let down = merged-hit f low high (v + 1) hit in
+            let order = merge.order in
+            let most = state.lowers (v + 1) in
+            absurd (omega arith))
+            (λ (miss : f (v + 1) ≡ high → ⊥).
+            let first : f (v + 1) ≡ v + 1 = sym (merged-miss f low high (v + 1) miss) ∙ e in
+            stays rows r k v ((state.firsts v l).1 first) (λ same. miss (first ∙ ap (λ z. z + 1) same ∙ sym at_high))) (cases_eq (f (v + 1)) high),
+      );
       before = λ i l. ⊎_elim
-        (λ (e : i ≡ r). inr (rw (number-same rows r k i row e) (omega arith)))
-        (λ (ne : i ≡ r → ⊥). ⊎_elim
-        (λ (g : number rows i < n). inl (rw (number-other rows r k i ne) g))
-        (λ (b : number rows i < k). inr (rw (number-other rows r k i ne) (omega arith)))
-        (state.before i (old_row i l))) (cases_eq i r);
+          (λ (e : i ≡ r). inr (rw (number-same rows r k i row e) (omega arith)))
+          (λ (ne : i ≡ r → ⊥). ⊎_elim
+          (λ (g : number rows i < n). inl (rw (number-other rows r k i ne) g))
+          (λ (b : number rows i < k). inr (rw (number-other rows r k i ne) (omega arith)))
+          (state.before i (old_row i l))) (cases_eq i r);
       joined = merged-joined net state.taken k f low high merge state.joined;
       taken_there = there state.taken kept new model_arc state.taken_there;
       taken_differ = differ state.taken all_below state.taken_differ;
       settled = λ m l h. ⊎_elim
-        (λ (below : m < k). ⊎_elim (λ (has : HasArc rows m). inl (kept m has l)) (λ (closes : Closes net n rows m). inr (closes_kept kept m closes)) (state.settled m l below))
-        (λ (above : k ≤ m). let e : m ≡ k = omega arith in rw e (inl new)) (cases_lt m k);
+          (λ (below : m < k). ⊎_elim (λ (has : HasArc rows m). inl (kept m has l)) (λ (closes : Closes net n rows m). inr (closes_kept kept m closes)) (state.settled m l below))
+          (λ (above : k ≤ m). let e : m ≡ k = omega arith in rw e (inl new)) (cases_lt m k);
     }
   where
     rows_apart : IsSplit net rows columns → (p i : ℕ) → p < length rows → i < length rows → p ≢ i → number rows p ≢ number rows i
     rows_apart split p i l m ne e =
         ⊎_elim (λ (below : p < i). split.rows_differ p i below m e) (λ (above : i ≤ p). split.rows_differ i p (omega arith) l (sym e)) (cases_lt p i)
+
     there : (taken : List ℕ) → ((l : ℕ) → HasArc rows l → n ≤ l → HasArc (set rows r k) l) → HasArc (set rows r k) k → n ≤ k
         → ((i : ℕ) → i < length taken → (n ≤ number taken i) × (number taken i < k) × HasArc rows (number taken i))
         → (i : ℕ) → i < length (k ∷ taken) → (n ≤ number (k ∷ taken) i) × (number (k ∷ taken) i < k + 1) × HasArc (set rows r k) (number (k ∷ taken) i)
     there taken kept new model_arc all zero l = (model_arc, omega arith, new)
     there taken kept new model_arc all (suc i) l = let t = all i (omega arith) in (t.0, omega (arith, t.1), kept (number taken i) t.2 t.0)
+
     differ : (taken : List ℕ) → ((i : ℕ) → i < length taken → number taken i < k) → ((i m : ℕ) → i < m → m < length taken → number taken i ≢ number taken m)
         → (i m : ℕ) → i < m → m < length (k ∷ taken) → number (k ∷ taken) i ≢ number (k ∷ taken) m
     differ taken below all zero zero l h = absurd (omega arith)
     differ taken below all zero (suc m) l h = λ e. let b = below m (omega arith) in omega arith
     differ taken below all (suc i) zero l h = absurd (omega arith)
     differ taken below all (suc i) (suc m) l h = all i m (omega arith) (omega arith)
+
     closes_kept : ((l : ℕ) → HasArc rows l → n ≤ l → HasArc (set rows r k) l) → (m : ℕ) → Closes net n rows m → Closes net n (set rows r k) m
     closes_kept kept m closes = record {
       walk = closes.walk;
       circuit = closes.circuit;
       over = λ l h. ⊎_elim (λ (e : arc_of closes.walk l ≡ m). inl e)
-        (λ (b : (n ≤ arc_of closes.walk l) × (arc_of closes.walk l < m) × HasArc rows (arc_of closes.walk l)). inr (b.0, b.1, kept (arc_of closes.walk l) b.2 b.0))
-        (closes.over l h);
+          (λ (b : (n ≤ arc_of closes.walk l) × (arc_of closes.walk l < m) × HasArc rows (arc_of closes.walk l)). inr (b.0, b.1, kept (arc_of closes.walk l) b.2 b.0))
+          (closes.over l h);
     }

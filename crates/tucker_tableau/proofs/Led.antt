@@ -1,19 +1,16 @@
 -- Where `lead` starts: no model arc is in the tree, and each node is the first of its own. What one arc does, and where `lead`
 -- ends: each model arc is in the tree or closes a circuit with earlier ones that are, and the ground arcs in the tree are those
 -- of the first nodes.
-use Rattle.std.proofs.Common.{◌≡◌, ◌≢◌, ◌⊎◌, ◌↔◌, ℕ, zero, suc, ◌+◌, ◌-◌, ◌<◌, ◌≤◌, ◌==◌, cond, ℤ, pos, negsuc, ◌-ℤ◌, ◌*ℤ◌, neg_ℤ, List, [], ◌∷◌, length, set, refl, sym, ap, ap₂, ◌∙◌, ⊎_elim, inl, inr, eq-eqb, length-set, arith}
+use Rattle.std.proofs.Common.{◌≡◌, ◌≢◌, ◌⊎◌, ◌↔◌, ℕ, ◌+◌, ◌-◌, ◌<◌, ◌≤◌, ℤ, pos, List, [], length, set, refl, sym, ap, ◌∙◌, ⊎_elim, inl, inr, arith}
 use Rattle.std.proofs.lemmas.Int.{ints}
-use Rattle.std.proofs.lemmas.Bool.{cases_eq, cases_lt, ne_eqb}
-use Rattle.theory.specs.declared.network.Step.{Step}
+use Rattle.std.proofs.lemmas.Bool.{cases_eq}
 use Rattle.theory.specs.Network.{Network, IsNetwork, tail, head}
-use Rattle.theory.specs.Circuit.{step, IsCircuit}
-use Rattle.theory.specs.Tucker.{HasArc, Leads, GoesOver}
-use Rattle.tucker_tableau.specs.Tableau.{number, IsSplit, IsLawful}
-use Rattle.tucker_tableau.specs.Table.{Table, entry}
-use Rattle.tucker_tableau.specs.Lead.{IsModelNetwork, arc_of, Closes, Connects, IsLed, NoGround, IsGreatest, part, IsLedTo}
+use Rattle.theory.specs.Tucker.{HasArc}
+use Rattle.tucker_tableau.specs.Tableau.{number, IsLawful}
+use Rattle.tucker_tableau.specs.Lead.{IsModelNetwork, arc_of, Closes, IsLed, IsLedTo}
 use Rattle.tucker_tableau.proofs.Paths.{path, Each-at, leads-way, level-leads}
 use Rattle.tucker_tableau.proofs.Bridge.{is_tree}
-use Rattle.tucker_tableau.proofs.Leading.{ground_entry, mark, mark-hit, mark-miss, taken_over, led-passed, led-taken, IsMerge}
+use Rattle.tucker_tableau.proofs.Leading.{ground_entry, mark-hit, mark-miss, taken_over, led-passed, led-taken}
 
 -- ---- the start
 
@@ -122,7 +119,7 @@ led-greatest net n rows columns a r s good model lawful model_arc state column r
     let low_of : (v : ℕ) → 1 ≤ v → v < n + 1 → f v ≢ m → (f h ≢ f t) → (f v ≡ f h) ⊎ (f v ≡ f t) → f v < m = λ v one bound off apart which. (
     let first = first_passes net n rows columns a k s v model lawful state column one bound in
     let p = passes_or_same net n rows columns a k s first.0.place model lawful state first.0.there first.1 column
-      (⊎_elim (λ (e : f v ≡ f h). inl (first.2 ∙ e)) (λ (e : f v ≡ f t). inr (first.2 ∙ e)) which) apart in
+    (⊎_elim (λ (e : f v ≡ f h). inl (first.2 ∙ e)) (λ (e : f v ≡ f t). inr (first.2 ∙ e)) which) apart in
     let g = greatest first.0.place first.0.there first.1 p in
     let e = first.2 in
     below (number rows first.0.place) (number rows r) (f v) g e off) in
@@ -157,26 +154,28 @@ led-all net n rows columns a model lawful state =
     record {
       arcs = λ k l h. (
         λ has closes. (is_tree net rows columns a lawful).no_circuit closes.walk closes.circuit
-        (λ m b. ⊎_elim (λ (e : arc_of closes.walk m ≡ k). record { place = has.place; there = has.there; is = has.is ∙ sym e })
-        (λ (o : (n ≤ arc_of closes.walk m) × (arc_of closes.walk m < k) × HasArc rows (arc_of closes.walk m)). o.2) (closes.over m b)),
-        λ open_. ⊎_elim (λ (has : HasArc rows k). has) (λ (closes : Closes net n rows k). absurd (open_ closes)) (state.settled k l h));
+            (λ m b. ⊎_elim (λ (e : arc_of closes.walk m ≡ k). record { place = has.place; there = has.there; is = has.is ∙ sym e })
+            (λ (o : (n ≤ arc_of closes.walk m) × (arc_of closes.walk m < k) × HasArc rows (arc_of closes.walk m)). o.2) (closes.over m b)),
+        λ open_. ⊎_elim (λ (has : HasArc rows k). has) (λ (closes : Closes net n rows k). absurd (open_ closes)) (state.settled k l h),
+      );
       ground = λ v l. (
         λ has w below connects. (
-        let first = (state.firsts v l).0 has in
-        let same = level-leads net f (w + 1) (v + 1) connects.walk connects.leads (λ m b. let o = connects.over m b in level_over o.1 o.0) in
-        let lower = state.lowers (w + 1) in
-        omega arith),
+            let first = (state.firsts v l).0 has in
+            let same = level-leads net f (w + 1) (v + 1) connects.walk connects.leads (λ m b. let o = connects.over m b in level_over o.1 o.0) in
+            let lower = state.lowers (w + 1) in
+            omega arith),
         λ alone. ⊎_elim
-        (λ (e : f (v + 1) ≡ v + 1). (state.firsts v l).1 e)
-        (λ (ne : f (v + 1) ≡ v + 1 → ⊥).
-        let lower = state.lowers (v + 1) in
-        let above = state.not_ground (v + 1) (omega arith) in
-        let w = f (v + 1) - 1 in
-        let up : w + 1 ≡ f (v + 1) = omega arith in
-        let p = path net state.taken (w + 1) (v + 1) state.taken_differ (state.joined (w + 1) (v + 1) (ap f up ∙ state.again (v + 1))) in
-        let over = taken_over net n rows (length net.arcs) state p.0 (Each-at (λ s. HasArc state.taken s.arc.0) p.0 p.1.over) in
-        absurd (alone w (omega arith) (record { walk = p.0; leads = leads-way net (w + 1) (v + 1) p.0 p.1.way; over = λ m b. (let o = over m b in (o.0, o.2)) })))
-        (cases_eq (f (v + 1)) (v + 1)));
+            (λ (e : f (v + 1) ≡ v + 1). (state.firsts v l).1 e)
+            (λ (ne : f (v + 1) ≡ v + 1 → ⊥).
+            let lower = state.lowers (v + 1) in
+            let above = state.not_ground (v + 1) (omega arith) in
+            let w = f (v + 1) - 1 in
+            let up : w + 1 ≡ f (v + 1) = omega arith in
+            let p = path net state.taken (w + 1) (v + 1) state.taken_differ (state.joined (w + 1) (v + 1) (ap f up ∙ state.again (v + 1))) in
+            let over = taken_over net n rows (length net.arcs) state p.0 (Each-at (λ s. HasArc state.taken s.arc.0) p.0 p.1.over) in
+            absurd (alone w (omega arith) (record { walk = p.0; leads = leads-way net (w + 1) (v + 1) p.0 p.1.way; over = λ m b. (let o = over m b in (o.0, o.2)) })))
+            (cases_eq (f (v + 1)) (v + 1)),
+      );
     }
   where
     level_over : {c : ℕ} → HasArc rows c → n ≤ c → state.least (head net c) ≡ state.least (tail net c)

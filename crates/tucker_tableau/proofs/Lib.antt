@@ -8,3 +8,4 @@ pub mod Cells
 pub mod Leading
 pub mod Led
 pub mod Tables
+pub mod Models

@@ -3,7 +3,7 @@
 -- on the list: if they are of one part without the first arc, by the path there; else the first arc joins their two parts, and
 -- the path goes to one of its ends, over it, and on from the other. Its two halves lie in different parts, so no node and no
 -- arc comes twice. No walk has to be shortened.
-use Rattle.std.proofs.Common.{◌≡◌, ◌≢◌, ◌⊎◌, ℕ, zero, suc, ◌+◌, ◌<◌, ◌≤◌, ◌==◌, cond, Bool, true, false, List, [], ◌∷◌, ◌++◌, length, refl, sym, ap, ◌∙◌, ⊎_elim, inl, inr, eq-eqb, arith}
+use Rattle.std.proofs.Common.{◌≡◌, ◌≢◌, ℕ, zero, suc, ◌<◌, ◌==◌, cond, Bool, true, false, List, [], ◌∷◌, ◌++◌, length, refl, sym, ap, ◌∙◌, ⊎_elim, eq-eqb, arith}
 use Rattle.std.proofs.lemmas.Bool.{cases_eq, ne_eqb}
 use Rattle.theory.specs.declared.network.Step.{Step}
 use Rattle.theory.specs.Sums.{Each}
@@ -97,16 +97,20 @@ level-way net f a b (s ∷ walk) way each =
 level-begins : (net : Network) (f : ℕ → ℕ) (a b : ℕ) (walk : List Step) → IsWay net a walk b → Each (IsLevel net f) walk → Each (λ s. f (begin_of net s) ≡ f a) walk
 level-begins net f a b [] way each = tt
 level-begins net f a b (s ∷ walk) way each =
-    let on : f (end_of net s) ≡ f a = level-end net f s each.0 ∙ ap f way.0 in
-    (ap f way.0, Each-map (λ t. f (begin_of net t) ≡ f (end_of net s)) (λ t. f (begin_of net t) ≡ f a) walk (λ t e. e ∙ on)
-      (level-begins net f (end_of net s) b walk way.3 each.1))
+    let on : f (end_of net s) ≡ f a = level-end net f s each.0 ∙ ap f way.0 in (
+      ap f way.0,
+      Each-map (λ t. f (begin_of net t) ≡ f (end_of net s)) (λ t. f (begin_of net t) ≡ f a) walk (λ t e. e ∙ on)
+          (level-begins net f (end_of net s) b walk way.3 each.1),
+    )
 
 level-tails : (net : Network) (f : ℕ → ℕ) (a b : ℕ) (walk : List Step) → IsWay net a walk b → Each (IsLevel net f) walk → Each (λ s. f (tail net s.arc.0) ≡ f a) walk
 level-tails net f a b [] way each = tt
 level-tails net f a b (s ∷ walk) way each =
-    let on : f (end_of net s) ≡ f a = level-end net f s each.0 ∙ ap f way.0 in
-    (level-tail net f s each.0 ∙ ap f way.0, Each-map (λ t. f (tail net t.arc.0) ≡ f (end_of net s)) (λ t. f (tail net t.arc.0) ≡ f a) walk (λ t e. e ∙ on)
-      (level-tails net f (end_of net s) b walk way.3 each.1))
+    let on : f (end_of net s) ≡ f a = level-end net f s each.0 ∙ ap f way.0 in (
+      level-tail net f s each.0 ∙ ap f way.0,
+      Each-map (λ t. f (tail net t.arc.0) ≡ f (end_of net s)) (λ t. f (tail net t.arc.0) ≡ f a) walk (λ t e. e ∙ on)
+          (level-tails net f (end_of net s) b walk way.3 each.1),
+    )
 
 -- ---- two ways joined by a step
 
@@ -118,21 +122,24 @@ way-joined net f a b [] s back c d ne way fronts at_s rest backs at_b =
     let off : (v : ℕ) → f v ≡ d → v ≢ a = λ v e same. ne (sym at_s ∙ ap f (sym way ∙ sym same) ∙ e) in
     (sym way, off b at_b, Each-map (λ t. f (begin_of net t) ≡ d) (λ t. begin_of net t ≢ a) back (λ t e. off (begin_of net t) e) backs, rest)
 way-joined net f a b (t ∷ front) s back c d ne way fronts at_s rest backs at_b =
-    let off : (v : ℕ) → f v ≡ d → v ≢ a = λ v e same. ne (sym fronts.0 ∙ ap f (way.0 ∙ sym same) ∙ e) in
-    (way.0, off b at_b,
+    let off : (v : ℕ) → f v ≡ d → v ≢ a = λ v e same. ne (sym fronts.0 ∙ ap f (way.0 ∙ sym same) ∙ e) in (
+      way.0,
+      off b at_b,
       Each-append (λ t. begin_of net t ≢ a) front (s ∷ back) way.2
-      (way.1, Each-map (λ t. f (begin_of net t) ≡ d) (λ t. begin_of net t ≢ a) back (λ t e. off (begin_of net t) e) backs),
-      way-joined net f (end_of net t) b front s back c d ne way.3 fronts.1 at_s rest backs at_b)
+          (way.1, Each-map (λ t. f (begin_of net t) ≡ d) (λ t. begin_of net t ≢ a) back (λ t e. off (begin_of net t) e) backs),
+      way-joined net f (end_of net t) b front s back c d ne way.3 fronts.1 at_s rest backs at_b,
+    )
 
 arcs-joined : (g : ℕ → ℕ) (front : List Step) (s : Step) (back : List Step) (c d : ℕ) → c ≢ d
     → AllDiffer (λ t. t.arc.0) front → Each (λ t. g t.arc.0 ≡ c) front → Each (λ t. t.arc.0 ≢ s.arc.0) front
     → AllDiffer (λ t. t.arc.0) back → Each (λ t. g t.arc.0 ≡ d) back → Each (λ t. t.arc.0 ≢ s.arc.0) back
     → AllDiffer (λ t. t.arc.0) (front ++ s ∷ back)
 arcs-joined g [] s back c d ne differ fronts off rest backs off_too = (off_too, rest)
-arcs-joined g (t ∷ front) s back c d ne differ fronts off rest backs off_too =
-    (Each-append (λ v. v.arc.0 ≢ t.arc.0) front (s ∷ back) differ.0
+arcs-joined g (t ∷ front) s back c d ne differ fronts off rest backs off_too = (
+  Each-append (λ v. v.arc.0 ≢ t.arc.0) front (s ∷ back) differ.0
       (λ e. off.0 (sym e), Each-map (λ v. g v.arc.0 ≡ d) (λ v. v.arc.0 ≢ t.arc.0) back (λ v e same. ne (sym fronts.0 ∙ ap g (sym same) ∙ e)) backs),
-      arcs-joined g front s back c d ne differ.1 fronts.1 off.1 rest backs off_too)
+  arcs-joined g front s back c d ne differ.1 fronts.1 off.1 rest backs off_too,
+)
 
 -- ---- the path
 
@@ -166,15 +173,17 @@ joined net r rest a b forward differ apart front back =
     let d = f (end_of net s) in
     let at_s : f (begin_of net s) ≡ c = level-way net f a (begin_of net s) front.0 front.1.way front_levels in
     let at_b : f b ≡ d = level-way net f (end_of net s) b back.0 back.1.way back_levels in
-    let ne : c ≢ d = λ e. ends_apart net f s apart (at_s ∙ e) in
-    (front.0 ++ s ∷ back.0, record {
-      way = way-joined net f a b front.0 s back.0 c d ne front.1.way (level-begins net f a (begin_of net s) front.0 front.1.way front_levels) at_s
-        back.1.way (level-begins net f (end_of net s) b back.0 back.1.way back_levels) at_b;
-      differ = arcs-joined (λ k. f (tail net k)) front.0 s back.0 c d ne
-        front.1.differ (level-tails net f a (begin_of net s) front.0 front.1.way front_levels) (offs front.0 front.1.over)
-        back.1.differ (level-tails net f (end_of net s) b back.0 back.1.way back_levels) (offs back.0 back.1.over);
-      over = Each-append (λ s. HasArc (r ∷ rest) s.arc.0) front.0 (s ∷ back.0) (wider front.0 front.1.over) (first, wider back.0 back.1.over);
-    })
+    let ne : c ≢ d = λ e. ends_apart net f s apart (at_s ∙ e) in (
+      front.0 ++ s ∷ back.0,
+      record {
+        way = way-joined net f a b front.0 s back.0 c d ne front.1.way (level-begins net f a (begin_of net s) front.0 front.1.way front_levels) at_s
+            back.1.way (level-begins net f (end_of net s) b back.0 back.1.way back_levels) at_b;
+        differ = arcs-joined (λ k. f (tail net k)) front.0 s back.0 c d ne
+            front.1.differ (level-tails net f a (begin_of net s) front.0 front.1.way front_levels) (offs front.0 front.1.over)
+            back.1.differ (level-tails net f (end_of net s) b back.0 back.1.way back_levels) (offs back.0 back.1.over);
+        over = Each-append (λ s. HasArc (r ∷ rest) s.arc.0) front.0 (s ∷ back.0) (wider front.0 front.1.over) (first, wider back.0 back.1.over);
+      },
+    )
   where
     ends_apart : (net : Network) (f : ℕ → ℕ) (s : Step) → f (tail net s.arc.0) ≢ f (head net s.arc.0) → f (begin_of net s) ≢ f (end_of net s)
     ends_apart net f s ne = by_direction (tail net s.arc.0) (head net s.arc.0) s.forward ne

@@ -1,7 +1,7 @@
 -- Whole tables: what a pivot makes of one, and one arc further in `lead`.
-use Rattle.std.proofs.Common.{◌≡◌, ◌≢◌, ◌⊎◌, ◌↔◌, ℕ, zero, suc, ◌+◌, ◌*◌, ◌/◌, ◌%◌, ◌<◌, ◌≤◌, ◌-◌, ◌==◌, nat_lt, Bool, true, false, cond, ℤ, pos, negsuc, ◌*ℤ◌, ◌-ℤ◌, List, length, set, get_or, refl, sym, ap, ap₂, ◌∙◌, subst, ⊎_elim, inl, inr, length-set, arith}
+use Rattle.std.proofs.Common.{◌≡◌, ◌≢◌, ◌↔◌, ℕ, ◌+◌, ◌*◌, ◌/◌, ◌%◌, ◌<◌, ◌≤◌, ◌-◌, ◌==◌, nat_lt, Bool, true, false, cond, ℤ, pos, ◌*ℤ◌, ◌-ℤ◌, List, length, set, get_or, refl, sym, ap, ap₂, ◌∙◌, subst, ⊎_elim, length-set, arith}
 use Rattle.std.proofs.lemmas.Int.{ints}
-use Rattle.std.proofs.lemmas.Bool.{cases_lt, lt-ltb}
+use Rattle.std.proofs.lemmas.Bool.{lt-ltb}
 use Rattle.std.proofs.lemmas.List.{same_lists, get_or_default}
 use Rattle.std.proofs.lemmas.Nat.{row_fits, div_below}
 use Rattle.theory.specs.Limits.{IsWithin}
@@ -18,7 +18,7 @@ use Rattle.tucker_tableau.specs.First.{star, IsFirst}
 use Rattle.tucker_tableau.specs.Cells.{IsTablePivoted, IsStar}
 use Rattle.tucker_tableau.specs.Kept.{tableau_arcs_most, IsCounting, IsLawfulTable, IsKept}
 use Rattle.tucker_tableau.specs.Places.{IsNowhere, IsAt}
-use Rattle.tucker_tableau.specs.Lead.{IsModelNetwork, IsLed, NoGround, IsGreatest, IsLedTo, IsTaken}
+use Rattle.tucker_tableau.specs.Lead.{IsGroundTree, IsModelNetwork, IsLed, NoGround, IsGreatest, IsLedTo, IsTaken}
 use Rattle.tucker_tableau.specs.Leading.{IsLookedAt, KeepsTableau, IsLeading}
 use Rattle.tucker_tableau.proofs.Exchange.{number-same, lawful_pivoted, lawful_same, pivoted-twice, set-back}
 use Rattle.tucker_tableau.proofs.Ground.{IsGroundedAt, first_lawful}
@@ -138,6 +138,7 @@ pivoted_again old new next r s kept row column passes p q =
   where
     at_place : (k w : ℕ) → 0 < w → k / w * w + k % w ≡ k
     at_place k w l = omega arith
+
     rest_below : (k w : ℕ) → 0 < w → k % w < w
     rest_below k w l = omega arith
 
@@ -206,6 +207,7 @@ led_step net n k now new model_arc there count good model lawful state looked =
   where
     strict : (n k m : ℕ) → n ≤ k → m ≡ k → m < n → ⊥
     strict n k m l e g = omega arith
+
     strict_too : (k m : ℕ) → m ≡ k → m < k → ⊥
     strict_too k m e b = omega arith
 
@@ -218,12 +220,12 @@ leading-more old now new k low high state looked keeps =
       columns = counts.1 ∙ state.columns;
       keeps = λ net good t. keeps net good (state.keeps net good t);
       led = λ net good model t. (
-        let lawful = lawful_tableau net now.rows now.columns (entry now) (state.keeps net good t) in
-        let size = lawful.split.size in
-        let r = state.rows in
-        let c = state.columns in
-        let there : k < length net.arcs = omega arith in
-        led_step net (length old.rows) k now new low there (sym state.rows) good model lawful (state.led net good model t) looked);
+          let lawful = lawful_tableau net now.rows now.columns (entry now) (state.keeps net good t) in
+          let size = lawful.split.size in
+          let r = state.rows in
+          let c = state.columns in
+          let there : k < length net.arcs = omega arith in
+          led_step net (length old.rows) k now new low there (sym state.rows) good model lawful (state.led net good model t) looked);
     }
 
 pub leading-all : (old now : Table) (k : ℕ) → k ≡ length old.rows + length old.columns → IsLeading old now k
@@ -255,8 +257,8 @@ first_is net h rows columns entries n m same ground rows_count columns_count cou
       rows = λ i l. (let e = counted_rows.numbers i (omega arith) in omega arith);
       columns = λ j l. (let e = counted_columns.numbers j (omega arith) in omega arith);
       entries = λ i j l k.
-        ap (λ w. cell entries w i j) wide ∙ star_is.cells i j (omega arith) (omega arith) ∙ whole (nat_lt j m) (lt-ltb j m (omega arith)) n i j
-        ∙ ap₂ (λ (list : List Arc) (count : ℕ). counted ((arc_at list (count + j)).from.0 == i + 1) (pos 1) -ℤ counted ((arc_at list (count + j)).to.0 == i + 1) (pos 1)) arcs (sym high);
+          ap (λ w. cell entries w i j) wide ∙ star_is.cells i j (omega arith) (omega arith) ∙ whole (nat_lt j m) (lt-ltb j m (omega arith)) n i j
+          ∙ ap₂ (λ (list : List Arc) (count : ℕ). counted ((arc_at list (count + j)).from.0 == i + 1) (pos 1) -ℤ counted ((arc_at list (count + j)).to.0 == i + 1) (pos 1)) arcs (sym high);
     }
   where
     whole : (b : Bool) → b ≡ true → (n i j : ℕ) → (cond b (star (bare h) n i j) (pos 0)) ≡ star (bare h) n i j
@@ -283,3 +285,9 @@ pub first_of : (net : Network) (table : Table) → IsGrounded net → IsFirst ne
 first_of net table ground first =
     tucker_tableau net table.rows table.columns (entry table) ground.is_network
     (first_tableau net table ground.is_network (grounded_at net (length table.rows) ground first.row_count) first)
+
+pub first_ground : (net : Network) (table : Table) → IsFirst net table → IsGroundTree table
+first_ground net table first arc = (
+  λ h. let e = first.rows h.place h.there in let f = h.is in let l = h.there in omega arith,
+  λ l. record { place = arc; there = l; is = first.rows arc l },
+)

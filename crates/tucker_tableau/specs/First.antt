@@ -1,5 +1,5 @@
 -- The first tableau: the rows are the arcs of the ground, the columns the other arcs, both in the order of their numbers.
-use Rattle.std.specs.Prelude.{◌≡◌, ℕ, ◌+◌, ◌<◌, ◌==◌, ℤ, pos, ◌-ℤ◌, length}
+use Rattle.std.specs.Prelude.{◌≡◌, ℕ, ◌+◌, ◌<◌, ◌==◌, ℤ, pos, ◌-ℤ◌, List, [], ◌∷◌, length}
 use Rattle.theory.specs.Sums.{counted}
 use Rattle.theory.specs.Network.{Network, tail, head}
 use Rattle.tucker_tableau.specs.Tableau.{number}
@@ -15,3 +15,7 @@ pub record IsFirst (net : Network) (table : Table) : Type 0 where
   pub rows : (i : ℕ) → i < length table.rows → number table.rows i ≡ i
   pub columns : (j : ℕ) → j < length table.columns → number table.columns j ≡ length table.rows + j
   pub entries : (i j : ℕ) → i < length table.rows → j < length table.columns → entry table i j ≡ star net (length table.rows) i j
+
+-- three rows of three entries, one after the other
+abbrev pub row_by_row : (ℕ → ℕ → ℤ) → List ℤ
+row_by_row a = a 0 0 ∷ a 0 1 ∷ a 0 2 ∷ a 1 0 ∷ a 1 1 ∷ a 1 2 ∷ a 2 0 ∷ a 2 1 ∷ a 2 2 ∷ []

@@ -1,7 +1,7 @@
 -- The tree that the model's arcs lead to: taken in order, each that closes no circuit with those taken before is in the tree,
 -- and of each set of model nodes that they connect the ground arc of the first one is. The network has n model nodes: arc i
 -- below n runs from the ground to node i + 1, and the model's arcs follow.
-use Rattle.std.specs.Prelude.{◌≡◌, ◌≢◌, ◌⊎◌, ◌↔◌, ℕ, ◌+◌, ◌<◌, ◌≤◌, ◌==◌, ℤ, pos, List, [], ◌∷◌, length, slice_set, if◌then◌else◌}
+use Rattle.std.specs.Prelude.{◌≡◌, ◌≢◌, ◌⊎◌, ◌↔◌, ℕ, ◌+◌, ◌<◌, ◌≤◌, ◌==◌, pos, List, [], ◌∷◌, length, if◌then◌else◌}
 use Rattle.theory.specs.declared.network.Step.{Step}
 use Rattle.theory.specs.Network.{Network, tail, head}
 use Rattle.theory.specs.Circuit.{step, IsCircuit}
@@ -16,6 +16,10 @@ pub record IsModelNetwork (net : Network) (n : ℕ) : Type 0 where
   pub ground_heads : (i : ℕ) → i < n → head net i ≡ i + 1
   pub model_tails : (k : ℕ) → n ≤ k → k < length net.arcs → 1 ≤ tail net k
   pub model_heads : (k : ℕ) → n ≤ k → k < length net.arcs → 1 ≤ head net k
+
+-- the rows hold the arcs of the ground, in any order
+abbrev pub IsGroundTree : Table → Type 0
+IsGroundTree table = (arc : ℕ) → HasArc table.rows arc ↔ (arc < length table.rows)
 
 -- ---- the tree
 

@@ -1,5 +1,5 @@
 -- How `lead` goes on from arc to arc.
-use Rattle.std.specs.Prelude.{◌≡◌, ◌⊎◌, ℕ, ◌<◌, Option, length, MatchOption}
+use Rattle.std.specs.Prelude.{◌≡◌, ◌⊎◌, ℕ, Option, length, MatchOption}
 use Rattle.theory.specs.Network.{Network, IsNetwork}
 use Rattle.tucker_tableau.specs.Table.{Table, IsTableauOf}
 use Rattle.tucker_tableau.specs.Places.{IsNowhere, IsAt}

@@ -1,6 +1,6 @@
 -- One pivot: the arcs of row r and column s change places. With p the entry there, which is 1 or -1, the rest follows from
 -- the two laws.
-use Rattle.std.specs.Prelude.{◌≡◌, ℕ, ◌<◌, ◌==◌, ℤ, pos, ◌-ℤ◌, ◌*ℤ◌, neg_ℤ, if◌then◌else◌, length, slice_set}
+use Rattle.std.specs.Prelude.{◌≡◌, ℕ, ◌<◌, ◌==◌, ℤ, ◌-ℤ◌, ◌*ℤ◌, neg_ℤ, if◌then◌else◌, length, slice_set}
 use Rattle.tucker_tableau.specs.Tableau.{number}
 use Rattle.tucker_tableau.specs.Table.{Table, entry}
 

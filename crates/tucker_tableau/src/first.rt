@@ -21,7 +21,12 @@ pub fn numbers(alloc: Global, from: usize, count: usize) -> Result<Vec<u32>, All
 }
 
 /// The entries of the ground's rows: in the column of each other arc, 1 where it begins and -1 where it ends.
-pub fn star_entries(alloc: Global, net: &Net, rows: usize, columns: usize) -> Result<Vec<i8>, AllocError>
+pub fn star_entries(
+    alloc: Global,
+    net: &Net,
+    rows: usize,
+    columns: usize,
+) -> Result<Vec<i8>, AllocError>
     requires row_each { rows + 1 ≡ net.now.nodes }
     requires column_each { rows + columns ≡ length net.now.arcs }
     requires few { rows + columns ≤ tableau_arcs_most }

@@ -7,16 +7,15 @@ use net_incidence::ArcId;
 impl Tableau {
     ghost use Rattle.std.specs.Prelude.{◌≡◌, ◌≢◌, ◌↔◌, ℕ, ◌+◌, ◌<◌, pos, length, IsTrue};
     ghost use Rattle.theory.specs.Network.{Network, IsNetwork};
-    ghost use Rattle.theory.specs.Tucker.{HasArc};
     ghost use Rattle.tucker_tableau.specs.Tableau.{number};
     ghost use Rattle.tucker_tableau.specs.Table.{entry, IsTableauOf};
-    ghost use Rattle.tucker_tableau.specs.Lead.{IsModelNetwork, IsLed};
+    ghost use Rattle.tucker_tableau.specs.Lead.{IsGroundTree, IsModelNetwork, IsLed};
     ghost use Rattle.tucker_tableau.specs.Leading.{IsBest, IsLookedAt, KeepsTableau};
 
     /// Takes each model arc into the tree that closes no circuit with those taken before. Of the ground arcs that pass
     /// in its column the one with the greatest number leaves.
     pub fn lead(&mut self)
-        requires { (arc : ℕ) → HasArc self.old.rows arc ↔ (arc < length self.old.rows) }
+        requires { IsGroundTree self.old }
         ensures rows { length self.new.rows ≡ length self.old.rows }
         ensures columns { length self.new.columns ≡ length self.old.columns }
         ensures tableau { (net : Network) → IsNetwork net → IsTableauOf net self.old → IsTableauOf net self.new }

@@ -3,6 +3,7 @@
 #![tactic(auto)]
 
 mod entries;
+mod examples;
 mod fault;
 mod first;
 mod lead;

@@ -3,6 +3,7 @@ ghost use Rattle.std.specs.Prelude.{◌↔◌, ◌≤◌, length, IfOk, IsTrue};
 ghost use Rattle.tucker_tableau.specs.Table.{IsTableauOf};
 ghost use Rattle.tucker_tableau.specs.First.{IsFirst};
 ghost use Rattle.tucker_tableau.specs.Kept.{IsTooBig, tableau_arcs_most};
+ghost use Rattle.tucker_tableau.specs.Lead.{IsGroundTree};
 
 use crate::entries::at;
 use crate::fault::TabFault;
@@ -46,6 +47,7 @@ impl Tableau {
     ghost use Rattle.tucker_tableau.specs.Table.{entry, IsTableauOf};
     ghost use Rattle.tucker_tableau.specs.First.{IsFirst};
     ghost use Rattle.tucker_tableau.specs.Kept.{IsTooBig, tableau_arcs_most};
+    ghost use Rattle.tucker_tableau.specs.Lead.{IsGroundTree};
     ghost use Rattle.tucker_tableau.specs.Cells.{IsUnit};
     ghost use Rattle.tucker_tableau.specs.Places.{IsNowhere, IsAt};
 
@@ -53,6 +55,7 @@ impl Tableau {
     pub fn of(alloc: Global, g: &Grounded) -> Result<Tableau, TabFault>
         ensures too_big { IsErrOf result TabFault.TooBig ↔ IsTooBig g.now.network }
         ensures first { IfOk result (IsFirst g.now.network) }
+        ensures ground { IfOk result IsGroundTree }
         ensures tableau { IfOk result (IsTableauOf g.now.network) }
     {
         if is_too_big(g) {
@@ -129,6 +132,7 @@ fn is_too_big(g: &Grounded) -> bool
 fn first(alloc: Global, g: &Grounded) -> Result<Tableau, AllocError>
     requires { length g.now.network.arcs ≤ tableau_arcs_most }
     ensures first { IfOk result (IsFirst g.now.network) }
+    ensures ground { IfOk result IsGroundTree }
     ensures tableau { IfOk result (IsTableauOf g.now.network) }
 {
     let net = g.net();

@@ -1,8 +1,8 @@
-use Rattle.std.proofs.Common.{◌≡◌, ℕ, ◌-◌, ◌*◌, ◌∙◌, ap, length}
+use Rattle.std.proofs.Common.{◌≡◌, ◌-◌, ◌*◌, ap, length}
 use Rattle.tucker_tableau.specs.Table.{Table}
 use Rattle.tucker_tableau.specs.First.{IsFirst}
 use Rattle.tucker_tableau.specs.Kept.{IsCounting}
-use Rattle.tucker_tableau.proofs.Tables.{first_is, first_kept, first_of}
+use Rattle.tucker_tableau.proofs.Tables.{first_is, first_kept, first_of, first_ground}
 use Rattle.tucker_tableau.proofs.tableau.first.Goals as goal
 
 made : (c : goal.In_ok-numbers-2) → IsFirst c.args.g.now.network (record { rows = c.in_ok-numbers.field-0.items; columns = c.in_ok-numbers-2.field-0.items; entries = c.in_ok-entries.entries.items })
@@ -27,3 +27,8 @@ pub returns-clause-tableau : goal.returns-clause-tableau
 returns-clause-tableau c =
     let table : Table = record { rows = c.in_ok-numbers.field-0.items; columns = c.in_ok-numbers-2.field-0.items; entries = c.in_ok-entries.entries.items } in
     first_of c.args.g.now.network table c.args.g.now.good (made c)
+
+pub returns-clause-ground : goal.returns-clause-ground
+returns-clause-ground c =
+    let table : Table = record { rows = c.in_ok-numbers.field-0.items; columns = c.in_ok-numbers-2.field-0.items; entries = c.in_ok-entries.entries.items } in
+    first_ground c.args.g.now.network table (made c)

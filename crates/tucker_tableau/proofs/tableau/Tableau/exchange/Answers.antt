@@ -1,12 +1,11 @@
 -- What the three lists are after the writes is a pivoted table; the rest follows for whole tables.
-use Rattle.std.proofs.Common.{◌≡◌, ℕ, ◌<◌, ◌*◌, ℤ, pos, ◌≢◌, List, length, set, refl, sym, ap, ap₂, ◌∙◌, subst, length-set, arith}
+use Rattle.std.proofs.Common.{◌≡◌, ◌<◌, ℤ, pos, ◌≢◌, List, length, set, sym, ap, ◌∙◌, subst, length-set}
 use Rattle.std.proofs.lemmas.List.{with_items_is}
 use Rattle.std.specs.Vec.{with_items}
 use Rattle.tucker_tableau.specs.Tableau.{number}
-use Rattle.tucker_tableau.specs.Table.{Table, cell, entry, IsTableauOf}
+use Rattle.tucker_tableau.specs.Table.{Table, entry, IsTableauOf}
 use Rattle.tucker_tableau.specs.Pivoted.{IsPivoted}
 use Rattle.tucker_tableau.specs.Cells.{IsTablePivoted}
-use Rattle.tucker_tableau.specs.Kept.{IsKept}
 use Rattle.tucker_tableau.proofs.Tables.{kept_unit, pivoted_table, pivoted_kept, pivoted_again, pivoted_tableau}
 use Rattle.tucker_tableau.proofs.tableau.Tableau.exchange.Goals as goal
 
