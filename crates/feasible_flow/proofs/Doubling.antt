@@ -2,7 +2,7 @@
 -- floor (a / 2q) before: if this was at most x, then a < 2q (x + 1), so floor (a / q) is at most 2 x + 1. So a flow within
 -- its domain, doubled, is at most 1 below its new lower end and, by opposites, at most 1 above its new upper end; never both, since
 -- the ends are in order. At the top all points are below the power of two, and 0 is within every domain.
-use Rattle.std.proofs.Common.{◌≡◌, ℕ, ◌+◌, ◌*◌, ◌^◌, ◌≤◌, ℤ, pos, ◌+ℤ◌, ◌-ℤ◌, ◌*ℤ◌, neg_ℤ, ◌≤ℤ◌, ◌<ℤ◌, List, refl, arith, add-one, pow_pos}
+use Rattle.std.proofs.Common.{◌≡◌, ℕ, ◌+◌, ◌*◌, ◌^◌, ◌≤◌, ℤ, pos, ◌+ℤ◌, ◌-ℤ◌, ◌*ℤ◌, neg_ℤ, ◌≤ℤ◌, List, refl, arith, add-one, pow_pos}
 use Rattle.std.specs.Int.{int_div_euclid}
 use Rattle.std.proofs.lemmas.Int.{ints, clamps}
 use Rattle.theory.specs.declared.ext.Ext.{Ext}

@@ -1,13 +1,13 @@
 -- What levels keep. Each begins with flows that lack at most 1 on each arc, since they were doubled from within the domains of the level
 -- before; so all together they lack at most m, no flow moves by more than that, and it is spent once they are within the
 -- domains again. After level 0 they are within the domains of the curves.
-use Rattle.std.proofs.Common.{◌≡◌, ℕ, zero, suc, ◌+◌, ◌*◌, ◌-◌, ◌<◌, ◌≤◌, ℤ, pos, ◌+ℤ◌, ◌*ℤ◌, ◌≤ℤ◌, Bool, true, false, ◌==◌, List, length, map, refl, sym, ap, ◌∙◌, ⊎_elim, arith, add-one}
+use Rattle.std.proofs.Common.{◌≡◌, ℕ, zero, suc, ◌+◌, ◌-◌, ◌<◌, ◌≤◌, ℤ, pos, ◌*ℤ◌, Bool, true, false, ◌==◌, List, length, map, refl, sym, ap, ◌∙◌, ⊎_elim, arith, add-one}
 use Rattle.std.proofs.lemmas.Int.{ints}
 use Rattle.std.proofs.lemmas.Bool.{cases_lt}
 use Rattle.theory.specs.declared.ext.Ext.{Ext}
 use Rattle.theory.specs.Sums.{sum_below, counted}
 use Rattle.theory.specs.CurveList.{IsCurveList}
-use Rattle.theory.specs.Limits.{IsWithin, AreWithin, number_most, level_most, grounded_arcs_most, flow_most}
+use Rattle.theory.specs.Limits.{AreWithin, number_most, level_most, grounded_arcs_most}
 use Rattle.theory.specs.Network.{«at», tail, head, list_at}
 use Rattle.theory.specs.Conserved.{IsConserved}
 use Rattle.theory.specs.Cut.{IsNegativeCut}

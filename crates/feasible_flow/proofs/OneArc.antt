@@ -7,7 +7,7 @@ use Rattle.std.proofs.lemmas.Int.{ints, clamps}
 use Rattle.std.proofs.lemmas.Bool.{false≢true}
 use Rattle.theory.specs.declared.ext.Ext.{Ext}
 use Rattle.theory.specs.declared.ext.Ext.TheVariants.{MinusInf, At, PlusInf}
-use Rattle.theory.specs.Ends.{IsAtLeast, IsAtMost, whole, is_below}
+use Rattle.theory.specs.Ends.{IsAtLeast, IsAtMost, is_below}
 use Rattle.theory.specs.CurveList.{first, last, IsCurveList}
 use Rattle.theory.specs.Domain.{InDomain}
 use Rattle.theory.specs.Painting.{IsFree}

@@ -2,13 +2,12 @@
 -- violation doesn't grow; that of the first arc, which lacks the amount, falls by it. So the total violation falls by the
 -- amount at least, and each flow stays as near to 0 as the violations have fallen together. What the steps of a circuit
 -- bring to a node adds up to nothing, so the flow stays conserved.
-use Rattle.std.proofs.Common.{◌≡◌, ◌≢◌, ℕ, zero, suc, ◌+◌, ◌*◌, ◌<◌, ◌≤◌, ℤ, pos, ◌+ℤ◌, ◌*ℤ◌, ◌≤ℤ◌, Bool, true, false, ◌==◌, List, ◌∷◌, length, sym, ◌∙◌, ⊎_elim, arith}
+use Rattle.std.proofs.Common.{◌≡◌, ◌≢◌, ℕ, zero, suc, ◌+◌, ◌<◌, ◌≤◌, ℤ, pos, ◌+ℤ◌, ◌*ℤ◌, ◌≤ℤ◌, Bool, true, false, ◌==◌, List, ◌∷◌, length, sym, ◌∙◌, ⊎_elim, arith}
 use Rattle.std.proofs.lemmas.Int.{ints}
 use Rattle.std.proofs.lemmas.Bool.{cases_lt}
 use Rattle.theory.specs.declared.ext.Ext.{Ext}
 use Rattle.theory.specs.declared.network.Step.{Step}
 use Rattle.theory.specs.Sums.{sum_below, counted, total_below}
-use Rattle.theory.specs.Limits.{IsWithin}
 use Rattle.theory.specs.Network.{«at», tail, head, list_at}
 use Rattle.theory.specs.Conserved.{IsConserved, divergence}
 use Rattle.theory.specs.Circuit.{step, begin_of, end_of, IsCircuit, WalkIsThere}

@@ -31,7 +31,7 @@ violation_at lists x j = violation (list_at lists j) («at» x j)
 abbrev pub total_violation : ℕ → List (List Ext) → List ℤ → ℕ
 total_violation m lists x = total_below m (violation_at lists x)
 
--- the most that m flows of 0 lack
+-- the most that m flows of 0 lack to their domains
 abbrev pub violation_most : ℕ → ℕ
 violation_most m = m * number_most
 
@@ -65,7 +65,7 @@ distance PlusInf x = 2 ^ 64 - 1
 
 -- ---- ranges
 
--- the most that the violations of a net add up to where all flows are 0: no flow is further from 0 on the way
+-- flows within this and what they lack fit 64 bits together: no flow is further from 0 on the way
 abbrev pub near_most : ℕ
 near_most = violation_most count_most
 

@@ -1,5 +1,5 @@
 -- From the room's flows or level by level, the flows end within the domains of level 0, or at a cut of a level.
-use Rattle.std.proofs.Common.{◌≡◌, ◌+◌, ◌*◌, ◌≤◌, map, length, refl, ◌∙◌, arith}
+use Rattle.std.proofs.Common.{◌+◌, ◌*◌, map, length, ◌∙◌, arith}
 use Rattle.std.proofs.lemmas.List.{length-map}
 use Rattle.theory.specs.Limits.{level_most}
 use Rattle.feasible_flow.specs.Violations.{total_violation}

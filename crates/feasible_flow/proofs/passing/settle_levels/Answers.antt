@@ -1,5 +1,5 @@
 -- What is within the domains of one level is doubled, lacks at most a unit on each arc at the next one, and is brought in again.
-use Rattle.std.proofs.Common.{◌≡◌, ℕ, ◌+◌, ◌-◌, ◌≤◌, length, map, refl, ◌∙◌, arith}
+use Rattle.std.proofs.Common.{◌≡◌, ◌+◌, ◌-◌, length, map, refl, ◌∙◌, arith}
 use Rattle.std.proofs.lemmas.List.{length-map}
 use Rattle.feasible_flow.specs.Violations.{total_violation}
 use Rattle.feasible_flow.specs.ByLevels.{levels_of}

@@ -1,7 +1,6 @@
 -- Where an arc lacks more than what is left, so do all arcs together, since no later one takes anything back.
-use Rattle.std.proofs.Common.{◌<◌, length, arith}
+use Rattle.std.proofs.Common.{length, arith}
 use Rattle.std.proofs.lemmas.Bool.{false≢true}
-use Rattle.feasible_flow.specs.Violations.{total_violation}
 use Rattle.feasible_flow.specs.ByLevels.{levels_of}
 use Rattle.feasible_flow.proofs.ViolationFalls.{lacks-more}
 use Rattle.feasible_flow.proofs.domains.Domains.lack_at_most.Goals as goal

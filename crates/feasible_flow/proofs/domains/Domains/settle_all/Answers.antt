@@ -1,6 +1,6 @@
 -- Each arc that is settled stays in its domain, since no later move takes any flow further from its own. What is spent is counted
 -- against the violations: a round lowers their sum.
-use Rattle.std.proofs.Common.{◌+◌, ◌≤◌, length, arith}
+use Rattle.std.proofs.Common.{length, arith}
 use Rattle.feasible_flow.specs.Violations.{total_violation}
 use Rattle.feasible_flow.specs.UnderWay.{readings_left}
 use Rattle.feasible_flow.specs.ByLevels.{levels_of}

@@ -1,7 +1,6 @@
 -- Flows will do where all three tests pass, and where one fails they will not.
-use Rattle.std.proofs.Common.{◌*◌, ◌≤◌, length, sym, ◌∙◌, arith}
+use Rattle.std.proofs.Common.{sym, ◌∙◌}
 use Rattle.std.proofs.lemmas.Bool.{false≢true}
-use Rattle.std.proofs.lemmas.Int.{ints}
 use Rattle.feasible_flow.proofs.domains.Domains.will_do.Goals as goal
 
 pub returns-then-not-are_within-clause-answer : goal.returns-then-not-are_within-clause-answer
