@@ -1,4 +1,6 @@
 // How often the passes read curves that count their readings themselves: a counter of a pass's own would not escape them.
+ghost use Rattle.std.specs.Prelude.{◌≡◌, ◌<◌};
+
 use crate::tests::net_of;
 use crate::{Balanced, balance};
 use feasible_flow::{FlowAns, feasible_flow};
@@ -8,6 +10,7 @@ use net_incidence::Net;
 use painted_search::Work;
 use std::cell::Cell;
 use std::marker::Brand;
+use std::process::Abort;
 use std::sync::ledger::{Blank, Ledger};
 use std::test::Fail;
 
@@ -75,7 +78,7 @@ impl Monotone for Watched<'_> {
 
 /// The three passes in turn: what balancing found, if they come so far, and the room after it.
 fn passed<L: Ledger>(
-    rt: &(impl std::process::Abort + AllocGlobal),
+    rt: &(impl Abort + AllocGlobal),
     net: &Net,
     curves: &[Watched],
     blank: Blank,
