@@ -13,7 +13,7 @@ use Rattle.std.proofs.lemmas.List.Elements.{All-head, All-tail}
 use Rattle.std.proofs.Math.Nat.{mul-le-mul_left}
 use Rattle.std.proofs.Math.Pow.{pow_mono}
 use Rattle.theory.specs.declared.ext.Ext.{Ext}
-use Rattle.theory.specs.Sums.{counted, sum_below, positive_part}
+use Rattle.theory.specs.Sums.{counted, positive_part}
 use Rattle.theory.specs.CurveList.{IsCurveList}
 use Rattle.theory.specs.Limits.{IsWithin, AreWithin, number_most, flow_most, level_most, grounded_nodes_most, grounded_arcs_most}
 use Rattle.theory.specs.Span.{InSpan}
@@ -36,7 +36,7 @@ use Rattle.painted_search.specs.Room.{Room}
 use Rattle.painted_search.specs.Fits.{Fits}
 use Rattle.curve_views.specs.Levels.{HasFlowNear}
 use Rattle.curve_views.specs.LevelLaws.{TopLevelLaw, DoubledLaw, LevelCutLaw}
-use Rattle.kilter_solver.specs.Ranges.{shift_most, far_most, begin_most, ungrounded_most}
+use Rattle.kilter_solver.specs.Ranges.{far_most, ungrounded_most}
 use Rattle.kilter_solver.specs.Excess.{excess, surpluses}
 use Rattle.kilter_solver.specs.Routing.{IsBalancing, IsSafe, Routes, fall_most}
 use Rattle.kilter_solver.specs.Clamping.{IsLoose, IsClampedBelow, IsBegun, IsGroundedBelow, AreNear}

@@ -1,5 +1,5 @@
 -- Clamping: each flow moves to the nearest one that is on its curve with the tension.
-use Rattle.std.specs.Prelude.{◌≡◌, ◌≢◌, ℕ, ◌==◌, ◌+◌, ◌*◌, ◌^◌, ◌<◌, ◌≤◌, ℤ, pos, ◌+ℤ◌, ◌-ℤ◌, List, length, unsigned_abs}
+use Rattle.std.specs.Prelude.{◌≡◌, ◌≢◌, ℕ, ◌==◌, ◌+◌, ◌*◌, ◌<◌, ◌≤◌, ℤ, pos, ◌+ℤ◌, ◌-ℤ◌, List, length, unsigned_abs}
 use Rattle.theory.specs.declared.ext.Ext.{Ext}
 use Rattle.theory.specs.Limits.{IsWithin, number_most}
 use Rattle.theory.specs.Sums.{counted, total_below}

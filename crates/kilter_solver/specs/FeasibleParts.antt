@@ -1,8 +1,7 @@
 -- What is found of feasibility: a feasible flow or a cut that refuses every flow, and a feasible potential or a circuit that
 -- refuses every potential.
-use Rattle.std.specs.Prelude.{◌≡◌, ◌↔◌}
+use Rattle.std.specs.Prelude.{◌≡◌}
 use Rattle.theory.specs.Network.{Network}
-use Rattle.theory.specs.Best.{FlowIsRefused, TensionIsRefused}
 use Rattle.theory.specs.Feasible.{IsFeasibleFlow, IsFeasiblePotential}
 use Rattle.theory.specs.Cut.{IsNegativeCut, cut_sum}
 use Rattle.theory.specs.Circuit.{IsNegativeCircuit, span_sum}

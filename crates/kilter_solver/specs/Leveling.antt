@@ -1,7 +1,7 @@
 -- Levels of a balancing. Level k of a curve has its points divided by 2 ^ k. A net is balanced at its top level first, where every
 -- point is -1, 0 or 1, and then level by level down to the curves themselves: from one level to the next the flows double, each is
 -- then at most 1 from the curve of its arc, and so an arc makes one unit of surplus at most.
-use Rattle.std.specs.Prelude.{◌≡◌, ℕ, zero, suc, ◌+◌, ◌*◌, ◌<◌, ◌≤◌, ℤ, pos, ◌*ℤ◌, neg_ℤ, ◌≤ℤ◌, List, length, map}
+use Rattle.std.specs.Prelude.{◌≡◌, ℕ, zero, suc, ◌+◌, ◌*◌, ◌<◌, ◌≤◌, pos, ◌*ℤ◌, neg_ℤ, ◌≤ℤ◌, List, length, map}
 use Rattle.theory.specs.declared.ext.Ext.{Ext}
 use Rattle.theory.specs.Limits.{IsWithin, number_most}
 use Rattle.theory.specs.Views.{level_items}

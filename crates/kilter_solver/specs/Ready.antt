@@ -1,5 +1,5 @@
 -- A room whose flows and potentials are on the curves of a net, in ranges where all can be computed.
-use Rattle.std.specs.Prelude.{◌≡◌, ℕ, ◌<◌, ◌^◌, ℤ, List, length}
+use Rattle.std.specs.Prelude.{◌≡◌, ℕ, ◌<◌, ℤ, List, length}
 use Rattle.theory.specs.declared.ext.Ext.{Ext}
 use Rattle.theory.specs.Limits.{IsWithin, arg_most}
 use Rattle.theory.specs.OnCurve.{IsOnCurve}

@@ -2,7 +2,7 @@
 -- source over the steps' prices less their tensions, and a label, the step that leads to it; its level is its potential plus
 -- the key, so along a label the level rises by the price. Marked nodes are settled: their keys are final, no met node that isn't
 -- settled has a lesser one, and each step from them was tried. The keys stand in the second scratch word of each node.
-use Rattle.std.specs.Prelude.{◌≡◌, ◌≢◌, ℕ, ◌+◌, ◌*◌, ◌^◌, ◌<◌, ◌≤◌, ℤ, pos, ◌+ℤ◌, ◌-ℤ◌, ◌≤ℤ◌, ◌<ℤ◌, Bool, true, false, ◌||◌, IsTrue, Option, Some, None, List, length}
+use Rattle.std.specs.Prelude.{◌≡◌, ◌≢◌, ℕ, ◌+◌, ◌*◌, ◌<◌, ◌≤◌, ℤ, pos, ◌+ℤ◌, ◌-ℤ◌, ◌≤ℤ◌, ◌<ℤ◌, Bool, true, false, ◌||◌, IsTrue, Option, Some, None, List, length}
 use Rattle.theory.specs.declared.ext.Ext.{Ext}
 use Rattle.theory.specs.declared.network.NodeId.{NodeId}
 use Rattle.theory.specs.declared.network.Step.{Step}

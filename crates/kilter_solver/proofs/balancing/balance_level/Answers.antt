@@ -1,6 +1,5 @@
-use Rattle.std.proofs.Common.{◌≡◌, ◌≤◌, ◌*◌, length, map, ◌∙◌, arith}
+use Rattle.std.proofs.Common.{◌≤◌, ◌*◌, length, map, ◌∙◌, arith}
 use Rattle.std.proofs.lemmas.List.{length-map}
-use Rattle.std.proofs.Math.Nat.{mul-le-mul_left}
 use Rattle.kilter_solver.specs.BundleFacts.{all_lists, greatest}
 use Rattle.kilter_solver.specs.Leveling.{levels_of}
 use Rattle.curve_views.proofs.LevelFlows.{doubled_flow}

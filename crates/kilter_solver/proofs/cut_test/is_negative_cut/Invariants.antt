@@ -1,4 +1,4 @@
-use Rattle.std.proofs.Common.{◌≡◌, ℕ, ◌+◌, ◌*◌, ◌^◌, ◌<◌, ◌≤◌, map}
+use Rattle.std.proofs.Common.{◌≡◌, ℕ, ◌+◌, ◌*◌, ◌<◌, ◌≤◌, map}
 use Rattle.theory.specs.Sums.{sum_below}
 use Rattle.theory.specs.Ends.{IsFinite, whole}
 use Rattle.theory.specs.Limits.{IsWithin}

@@ -1,4 +1,4 @@
-use Rattle.std.proofs.Common.{◌≡◌, ◌∙◌, ℕ, ℤ, List, length, map, pos, ap, sym, subst, below_more, arith, rules}
+use Rattle.std.proofs.Common.{◌≡◌, ◌∙◌, ℤ, List, map, pos, ap, sym, subst, below_more, arith, rules}
 use Rattle.std.proofs.lemmas.Int.{ints}
 use Rattle.theory.specs.declared.ext.Ext.{Ext}
 use Rattle.theory.specs.OnCurve.{IsOnCurve}

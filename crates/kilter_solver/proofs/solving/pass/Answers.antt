@@ -1,6 +1,5 @@
-use Rattle.std.proofs.Common.{◌≡◌, ◌∙◌, ap, sym, subst, List, ℤ}
+use Rattle.std.proofs.Common.{◌∙◌, ap, sym, subst, List, ℤ}
 use Rattle.theory.specs.Feasible.{IsFeasibleFlow}
-use Rattle.theory.specs.Certificate.{IsOptimalPair}
 use Rattle.net_incidence.specs.Graph.{network}
 use Rattle.kilter_solver.proofs.Parts.{flow-of, pair-of, cut-of, circuit-of}
 use Rattle.kilter_solver.proofs.solving.pass.Goals as goal

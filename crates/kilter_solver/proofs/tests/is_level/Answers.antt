@@ -1,4 +1,4 @@
-use Rattle.std.proofs.Common.{ℕ, ◌<◌, pos, IsTrue, List, length, ap, ◌∙◌, subst, below_more, rules, arith}
+use Rattle.std.proofs.Common.{◌<◌, pos, IsTrue, List, length, ap, ◌∙◌, subst, below_more, rules, arith}
 use Rattle.theory.specs.declared.ext.Ext.{Ext}
 use Rattle.theory.specs.Ends.{IsBetween}
 use Rattle.theory.specs.Span.{InSpan, span_low}

@@ -1,4 +1,4 @@
-use Rattle.std.proofs.Common.{◌<◌, ◌*◌, ℤ, List, length, get_or, subst, to_z-of_z, arith}
+use Rattle.std.proofs.Common.{◌<◌, ℤ, List, length, get_or, subst, to_z-of_z, arith}
 use Rattle.theory.specs.declared.ext.Ext.{Ext}
 use Rattle.theory.specs.Readings.{IsSlopes}
 use Rattle.theory.specs.Views.{level_items}

@@ -1,4 +1,4 @@
-use Rattle.std.proofs.Common.{◌≡◌, ℤ, ◌+◌, ◌^◌, sym, ap, ◌∙◌, subst, to_z-of_z, arith}
+use Rattle.std.proofs.Common.{◌≡◌, ℤ, ◌+◌, sym, ap, ◌∙◌, subst, to_z-of_z, arith}
 use Rattle.std.proofs.lemmas.Int.{ints}
 use Rattle.theory.specs.Limits.{IsWithin}
 use Rattle.painted_search.specs.Room.{Room}
