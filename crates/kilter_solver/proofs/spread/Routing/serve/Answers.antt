@@ -50,6 +50,18 @@ wanted-most-requires-clause-lacks g c =
     let lacks = c.requires.found.lacks in
     omega (arith, ints)
 
+pub push-requires-clause-ready : goal.push-requires-clause-ready
+push-requires-clause-ready g c =
+    let few = c.args.work.now.sized.few_nodes in
+    fallen-movable c.args.self.now.net.now (g.B.Bundle.lists c.args.self.now.bundle.now) c.args.source.0 c.args.target.0 c.args.work.now
+    c.lower.new.work c.requires.found c.requires.balancing.on_curves c.requires.balancing.same_nodes c.lower.ensures c.requires.ready
+    (omega (arith, c.requires.balancing.same_nodes))
+
+pub push-requires-clause-route : goal.push-requires-clause-route
+push-requires-clause-route g c =
+    fallen-route c.args.self.now.net.now (g.B.Bundle.lists c.args.self.now.bundle.now) c.args.source.0 c.args.target.0 c.args.work.now
+    c.lower.new.work c.requires.found c.requires.balancing.on_curves c.requires.balancing.same_nodes c.lower.ensures
+
 pub push-requires-clause-room : goal.push-requires-clause-room
 push-requires-clause-room g c =
     let fits : SFits w64 c.room_along-amount.result = search rules in
