@@ -309,7 +309,11 @@ fn moved_by(forward: bool, flow: i64, amount: i64) -> i64
     requires amount { IsWithin far_most amount }
     ensures { result ≡ moved_by amount forward flow }
 {
-    if forward { flow + amount } else { flow - amount }
+    if forward {
+        flow + amount
+    } else {
+        flow - amount
+    }
 }
 
 fn give(work: &mut Work, node: NodeId, amount: i64)

@@ -9,8 +9,10 @@ loop-init g c =
     let net = c.args.self.now.net.now in
     let lists = g.B.Bundle.lists c.args.self.now.bundle.now in
     let most = to_z w64 (of_z w64 c.args.most) in
-    record { measured = measured-begun net lists c.args.source.0 c.args.target.0 c.args.work.now most (g.B.Bundle.weight c.args.self.now.bundle.now) c.args.steps.now c.requires.route
-        (subst (λ (z : ℤ). pos 1 ≤ℤ z) (sym (to_z-of_z c.ranges.most)) c.requires.some) }
+    record {
+      measured = measured-begun net lists c.args.source.0 c.args.target.0 c.args.work.now most (g.B.Bundle.weight c.args.self.now.bundle.now) c.args.steps.now c.requires.route
+          (subst (λ (z : ℤ). pos 1 ≤ℤ z) (sym (to_z-of_z c.ranges.most)) c.requires.some);
+    }
 
 pub loop-preserved : goal.loop-preserved
 loop-preserved g c =

@@ -72,4 +72,3 @@ returns-else-step-clause-room g c =
     (room-of net lists w step v c.range-low.result.0 c.range-low.result.1 c.range-low.ensures.range v_is r
     (c.requires.ready.on_curves.pairs step.arc.0 c.requires.there)
     (λ is. absurd (false≢true (sym c.if-step.false ∙ is))) (λ is. subst (λ (x : ℤ). IsUnder c.range-low.result.0 (x -ℤ r)) x_is c.room_down.ensures.room))
-
