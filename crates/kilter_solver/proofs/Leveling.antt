@@ -451,11 +451,12 @@ module _ (g : Graph) (lists : List (List Ext)) (d curves : ℕ) (all : d ≡ lev
 
 -- one level, at weights of at most 3
 pub readings-level : (m weight surplus start first last : ℕ) → weight ≤ 3 → surplus ≤ m → first ≤ start + m * weight
-    → last ≤ first + 2 * m * weight * (surplus + 1) → last ≤ start + level_share m
+    → last ≤ first + m * weight * (3 * surplus + 2) → last ≤ start + level_share m
 readings-level m weight surplus start first last light few one all =
     let a = mul-le-mul_left m light in
-    let b = mul-le-mul_left (2 * m * (surplus + 1)) light in
-    let c : 2 * m * (surplus + 1) ≤ 2 * m * (m + 1) = (let more : surplus + 1 ≤ m + 1 = omega arith in omega (arith, mul-le-mul_left (2 * m) more)) in
+    let b = mul-le-mul_left (3 * surplus + 2) a in
+    let more : 3 * surplus + 2 ≤ 3 * m + 2 = omega arith in
+    let c = mul-le-mul_left (m * 3) more in
     omega arith
 
 readings-most : (n m start last : ℕ) → last ≤ start + (level_most + 1) * level_share m → last ≤ start + 3 * reading_unit n m level_most

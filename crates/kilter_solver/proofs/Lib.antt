@@ -11,6 +11,7 @@ pub mod Settling
 -- How flow moves:
 pub mod Lowering
 pub mod Pushing
+pub mod Rooms
 pub mod Cutting
 pub mod Serving
 -- The beginning:

@@ -3,12 +3,12 @@
 -- node to one that was met it is no more than that, since the other key is at least the bound; to an unmet node every tension
 -- is on the curve. So each pair stays on its curve, by the steps that were tried. Along a label between settled nodes, or to
 -- the target, the tension is now the price.
-use Rattle.std.proofs.Common.{◌≡◌, inl, inr, ℕ, ◌<◌, ◌≤◌, ℤ, pos, ◌+ℤ◌, ◌-ℤ◌, neg_ℤ, ◌≤ℤ◌, ◌<ℤ◌, Bool, true, false, IsTrue, List, refl, sym, ap, ◌∙◌, subst, ⊎_elim, arith}
+use Rattle.std.proofs.Common.{◌≡◌, ◌⊎◌, inl, inr, ℕ, ◌<◌, ◌≤◌, ℤ, pos, ◌+ℤ◌, ◌-ℤ◌, neg_ℤ, ◌≤ℤ◌, ◌<ℤ◌, Bool, true, false, IsTrue, List, refl, sym, ap, ◌∙◌, subst, ⊎_elim, arith}
 use Rattle.std.proofs.lemmas.Int.{ints, by_lt_z}
 use Rattle.std.proofs.Math.Nat.{mul-le-mul_left}
 use Rattle.std.proofs.lemmas.Bool.{cases_lt, false≢true}
 use Rattle.theory.specs.declared.ext.Ext.{Ext}
-use Rattle.theory.specs.Limits.{number_most}
+use Rattle.theory.specs.Limits.{IsWithin, number_most, arg_most}
 use Rattle.theory.specs.OnCurve.{IsOnCurve}
 use Rattle.theory.specs.Network.{«at», tail, head, list_at}
 use Rattle.theory.specs.Conserved.{tension}
@@ -16,13 +16,14 @@ use Rattle.theory.specs.Cut.{holds}
 use Rattle.theory.specs.Circuit.{begin_of, end_of}
 use Rattle.net_incidence.specs.Graph.{Graph, bare}
 use Rattle.net_incidence.specs.Incidence.{over}
-use Rattle.painted_search.specs.Room.{Room}
+use Rattle.painted_search.specs.Room.{Room, count_most}
 use Rattle.painted_search.specs.Path.{label_at}
+use Rattle.kilter_solver.specs.Ranges.{ungrounded_most}
 use Rattle.kilter_solver.specs.Along.{rise, IsPairAlong, moved}
 use Rattle.kilter_solver.specs.Excess.{excess}
-use Rattle.kilter_solver.specs.Ready.{AreOnCurves}
+use Rattle.kilter_solver.specs.Ready.{AreOnCurves, Ready}
 use Rattle.kilter_solver.specs.Spread.{key, level, is_near, WayTo, IsFound}
-use Rattle.kilter_solver.specs.Routing.{fallen, fallen_at, IsFallenBelow, IsOn, TightTo, IsRoute, IsNotFar}
+use Rattle.kilter_solver.specs.Routing.{fallen, fallen_at, IsFallenBelow, IsOn, TightTo, IsRoute, IsNotFar, IsMovable, fall_most}
 use Rattle.kilter_solver.proofs.Marking.{count-most}
 use Rattle.net_incidence.proofs.Graphs.{begin-in_graph, end-in_graph}
 use Rattle.kilter_solver.proofs.Spreading.{near-done}
@@ -193,3 +194,24 @@ module _ (g : Graph) (lists : List (List Ext)) (source target : ℕ) (v w : Room
       waits : (d : Bool) → d ≡ holds v.reached i → fallen d («at» v.potentials i) (key v i) bound ≡ «at» v.potentials i
       waits false e = refl
       waits true e = let h = found.none_lacks i (sym e) in absurd (omega (arith, ints))
+
+  -- potentials that have fallen leave room
+  pub fallen-movable : Ready g lists v → g.nodes ≤ count_most → IsMovable g lists w
+  fallen-movable ready few = record {
+    same_nodes = fall.same.nodes ∙ nodes;
+    same_arcs = fall.same.arcs ∙ ready.same_arcs;
+    one_list_each = ready.one_list_each;
+    on_curves = fallen-on_curves;
+    flows = λ j. subst (λ (x : List ℤ). IsWithin arg_most («at» x j)) (sym fall.same.flows) (ready.flows j);
+    potentials = λ i. (
+        let high = (ready.potentials i).1 in
+        let falls = fallen-falls i in
+        let low = low_for i (fallen-far i).far in
+        (omega (arith, ints), omega (arith, ints)));
+  }
+    where
+      low_for : (i : ℕ) → («at» w.potentials i ≡ «at» v.potentials i)
+          ⊎ ((t : ℕ) × (t < g.nodes) × (excess v t <ℤ pos 0) × («at» v.potentials t ≤ℤ («at» w.potentials i +ℤ pos (fall_most g))))
+          → neg_ℤ (pos ungrounded_most) ≤ℤ «at» w.potentials i
+      low_for i (inl same) = let low = (ready.potentials i).0 in omega (arith, ints)
+      low_for i (inr (t, l, h, near)) = let low = (ready.potentials t).0 in omega (arith, ints)

@@ -1,5 +1,5 @@
--- A unit that is sent. The source has one less to give and the target lacks one less, so the surpluses together fall by one: the
--- target has none before and after. Excesses stay what the flow makes of them, since the divergence moved in the same way.
+-- An amount that is sent. The source has that much less to give and the target lacks that much less, so the surpluses together fall
+-- by it: the target has none before and after. Excesses stay what the flow makes of them, since the divergence moved in the same way.
 use Rattle.std.proofs.Common.{◌≡◌, ◌≢◌, ◌⊎◌, inl, inr, ℕ, zero, suc, ◌+◌, ◌<◌, ◌≤◌, ℤ, pos, negsuc, ◌+ℤ◌, ◌-ℤ◌, neg_ℤ, ◌≤ℤ◌, ◌<ℤ◌, List, refl, sym, ap, ◌∙◌, subst, ⊎_elim, eq-eqb, arith}
 use Rattle.std.proofs.lemmas.Int.{ints}
 use Rattle.std.proofs.lemmas.Bool.{cases_eq, ne_eqb}
@@ -11,13 +11,13 @@ use Rattle.theory.specs.Conserved.{divergence}
 use Rattle.net_incidence.specs.Graph.{Graph, bare}
 use Rattle.painted_search.specs.Room.{Room, count_most}
 use Rattle.painted_search.specs.Writes.{with_scratch}
-use Rattle.theory.proofs.Counting.{total_below-same, total_below-change}
+use Rattle.theory.proofs.Counting.{total_below-same, total_below-change, total_below-term}
 use Rattle.kilter_solver.specs.Ranges.{reach_most}
 use Rattle.kilter_solver.specs.Excess.{excess, surpluses}
 use Rattle.theory.specs.Sums.{positive_part}
 use Rattle.kilter_solver.specs.Ready.{AreOnCurves, Ready}
 use Rattle.kilter_solver.specs.Spread.{key, IsFound, IsSameState}
-use Rattle.kilter_solver.specs.Routing.{one_at, IsFallenBelow, IsPushed, IsBalancing, IsNotFar, IsSent, Routes, IsSafe, fall_most}
+use Rattle.kilter_solver.specs.Routing.{amount_at, IsFallenBelow, IsPushed, IsBalancing, IsNotFar, IsSent, Routes, IsSafe, fall_most}
 use Rattle.kilter_solver.proofs.Lowering.{fallen-falls, fallen-far, fallen-lacking}
 
 -- ---- surpluses
@@ -27,23 +27,24 @@ part-none (pos zero) h = refl
 part-none (pos (suc n)) h = absurd (omega (arith, ints))
 part-none (negsuc n) h = refl
 
-part-less : (y z : ℤ) → pos 0 <ℤ z → y ≡ z -ℤ pos 1 → positive_part z ≡ positive_part y + 1
-part-less (pos m) (pos n) h e = omega (arith, ints)
-part-less (negsuc m) (pos n) h e = absurd (omega (arith, ints))
-part-less y (negsuc n) h e = absurd (omega (arith, ints))
+part-less : (a : ℕ) (y z : ℤ) → pos a ≤ℤ z → y ≡ z -ℤ pos a → positive_part z ≡ positive_part y + a
+part-less a (pos m) (pos n) h e = omega (arith, ints)
+part-less a (negsuc m) (pos n) h e = absurd (omega (arith, ints))
+part-less a y (negsuc n) h e = absurd (omega (arith, ints))
 
--- one unit less at s, one unit more at t
-pub record IsMovedUnit (n s t : ℕ) (e f : ℕ → ℤ) : Type 0 where
+-- the amount less at s, the amount more at t
+pub record IsMovedAmount (a n s t : ℕ) (e f : ℕ → ℤ) : Type 0 where
+  pub some : 1 ≤ a
   pub s_there : s < n
   pub t_there : t < n
-  pub surplus : pos 0 <ℤ e s
-  pub lacks : e t <ℤ pos 0
-  pub less : f s ≡ e s -ℤ pos 1
-  pub more : f t ≡ e t +ℤ pos 1
+  pub surplus : pos a ≤ℤ e s
+  pub lacks : e t ≤ℤ neg_ℤ (pos a)
+  pub less : f s ≡ e s -ℤ pos a
+  pub more : f t ≡ e t +ℤ pos a
   pub others : (k : ℕ) → k < n → k ≢ s → k ≢ t → f k ≡ e k
 
-module _ (n s t : ℕ) (e f : ℕ → ℤ) (unit : IsMovedUnit n s t e f) where
-  pub unit-fewer : surpluses n f + 1 ≡ surpluses n e
+module _ (a n s t : ℕ) (e f : ℕ → ℤ) (unit : IsMovedAmount a n s t e f) where
+  pub unit-fewer : surpluses n f + a ≡ surpluses n e
   unit-fewer =
       let same : (k : ℕ) → k < n → k ≢ s → positive_part (f k) ≡ positive_part (e k) =
       (λ k l other.
@@ -53,15 +54,16 @@ module _ (n s t : ℕ) (e f : ℕ → ℤ) (unit : IsMovedUnit n s t e f) where
       let fk : f k ≡ f t = ap f at_t in
       let lacks = unit.lacks in
       let more = unit.more in
+      let some = unit.some in
       part-none (f k) (omega (arith, ints)) ∙ sym (part-none (e k) (omega (arith, ints))))
       (λ (off_t : k ≡ t → ⊥). ap positive_part (unit.others k l other off_t))
       (cases_eq k t)) in
       let change = total_below-change n s (λ k. positive_part (e k)) (λ k. positive_part (f k)) unit.s_there same in
-      let here = part-less (f s) (e s) unit.surplus unit.less in
+      let here = part-less a (f s) (e s) unit.surplus unit.less in
       omega arith
 
   -- the new excess, by the units moved
-  pub unit-at : (k : ℕ) → k < n → f k ≡ (e k -ℤ one_at s k) +ℤ one_at t k
+  pub unit-at : (k : ℕ) → k < n → f k ≡ (e k -ℤ amount_at (pos a) s k) +ℤ amount_at (pos a) t k
   unit-at k l =
       ⊎_elim
       (λ (at_s : s ≡ k).
@@ -69,24 +71,25 @@ module _ (n s t : ℕ) (e f : ℕ → ℤ) (unit : IsMovedUnit n s t e f) where
       let same : e s ≡ e t = ap e (at_s ∙ sym at_t) in
       let surplus = unit.surplus in
       let lacks = unit.lacks in
+      let some = unit.some in
       omega (arith, ints)) in
-      let one : one_at s k ≡ pos 1 = rw (eq-eqb s k at_s) refl in
-      let none : one_at t k ≡ pos 0 = rw (ne_eqb t k apart) refl in
+      let one : amount_at (pos a) s k ≡ pos a = rw (eq-eqb s k at_s) refl in
+      let none : amount_at (pos a) t k ≡ pos 0 = rw (ne_eqb t k apart) refl in
       let ek : e s ≡ e k = ap e at_s in
       let fk : f s ≡ f k = ap f at_s in
       let less = unit.less in
       omega (arith, ints))
       (λ (off_s : s ≡ k → ⊥).
-      let none : one_at s k ≡ pos 0 = rw (ne_eqb s k off_s) refl in
+      let none : amount_at (pos a) s k ≡ pos 0 = rw (ne_eqb s k off_s) refl in
       ⊎_elim
       (λ (at_t : t ≡ k).
-      let one : one_at t k ≡ pos 1 = rw (eq-eqb t k at_t) refl in
+      let one : amount_at (pos a) t k ≡ pos a = rw (eq-eqb t k at_t) refl in
       let ek : e t ≡ e k = ap e at_t in
       let fk : f t ≡ f k = ap f at_t in
       let more = unit.more in
       omega (arith, ints))
       (λ (off_t : t ≡ k → ⊥).
-      let none_too : one_at t k ≡ pos 0 = rw (ne_eqb t k off_t) refl in
+      let none_too : amount_at (pos a) t k ≡ pos 0 = rw (ne_eqb t k off_t) refl in
       let same = unit.others k l (λ h. off_s (sym h)) (λ h. off_t (sym h)) in
       omega (arith, ints))
       (cases_eq t k))
@@ -97,10 +100,10 @@ module _ (n s t : ℕ) (e f : ℕ → ℤ) (unit : IsMovedUnit n s t e f) where
   unit-lacked k l h =
       ⊎_elim
       (λ (at_s : k ≡ s).
-      let fk : f k ≡ f s = ap f at_s in let less = unit.less in let surplus = unit.surplus in absurd (omega (arith, ints)))
+      let fk : f k ≡ f s = ap f at_s in let less = unit.less in let surplus = unit.surplus in let some = unit.some in absurd (omega (arith, ints)))
       (λ (off_s : k ≡ s → ⊥).
       ⊎_elim
-      (λ (at_t : k ≡ t). let ek : e k ≡ e t = ap e at_t in let lacks = unit.lacks in omega (arith, ints))
+      (λ (at_t : k ≡ t). let ek : e k ≡ e t = ap e at_t in let lacks = unit.lacks in let some = unit.some in omega (arith, ints))
       (λ (off_t : k ≡ t → ⊥). let same = unit.others k l off_s off_t in omega (arith, ints))
       (cases_eq k t))
       (cases_eq k s)
@@ -108,10 +111,10 @@ module _ (n s t : ℕ) (e f : ℕ → ℤ) (unit : IsMovedUnit n s t e f) where
   pub unit-sated : (k : ℕ) → k < n → e k ≤ℤ pos 0 → f k ≤ℤ pos 0
   unit-sated k l h =
       ⊎_elim
-      (λ (at_s : k ≡ s). let ek : e k ≡ e s = ap e at_s in let surplus = unit.surplus in absurd (omega (arith, ints)))
+      (λ (at_s : k ≡ s). let ek : e k ≡ e s = ap e at_s in let surplus = unit.surplus in let some = unit.some in absurd (omega (arith, ints)))
       (λ (off_s : k ≡ s → ⊥).
       ⊎_elim
-      (λ (at_t : k ≡ t). let fk : f k ≡ f t = ap f at_t in let lacks = unit.lacks in let more = unit.more in omega (arith, ints))
+      (λ (at_t : k ≡ t). let fk : f k ≡ f t = ap f at_t in let lacks = unit.lacks in let more = unit.more in let some = unit.some in omega (arith, ints))
       (λ (off_t : k ≡ t → ⊥). let same = unit.others k l off_s off_t in omega (arith, ints))
       (cases_eq k t))
       (cases_eq k s)
@@ -123,14 +126,14 @@ pub record IsServed (g : Graph) (lists : List (List Ext)) (v w : Room) : Type 0 
   pub sent : IsSent g v w
 
 -- v, then with lower potentials, then with flow moved, then with the excesses written
-pub served : (g : Graph) (lists : List (List Ext)) (source target : ℕ) (v p q w : Room) (left lack : ℤ) → IsBalancing g lists v
-    → IsFound g lists source v target → AreOnCurves g lists v.flows v.potentials → source < g.nodes → pos 0 <ℤ excess v source
-    → IsFallenBelow v.nodes (key v target) v p → IsPushed g lists source target p q
-    → left ≡ excess q source -ℤ pos 1 → lack ≡ excess (with_scratch q source left) target +ℤ pos 1
+pub served : (g : Graph) (lists : List (List Ext)) (source target : ℕ) (v p q w : Room) (a : ℕ) (left lack : ℤ) → IsBalancing g lists v
+    → IsFound g lists source v target → AreOnCurves g lists v.flows v.potentials → source < g.nodes → 1 ≤ a → pos a ≤ℤ excess v source
+    → excess v target ≤ℤ neg_ℤ (pos a)
+    → IsFallenBelow v.nodes (key v target) v p → IsPushed g lists (pos a) source target p q
+    → left ≡ excess q source -ℤ pos a → lack ≡ excess (with_scratch q source left) target +ℤ pos a
     → w ≡ with_scratch (with_scratch q source left) target lack → IsServed g lists v w
-served g lists source target v p q w left lack balancing found on_curves there surplus fall pushed left_is lack_is is =
+served g lists source target v p q w a left lack balancing found on_curves there some surplus lacks fall pushed left_is lack_is is =
     let target_there : target < g.nodes = omega (arith, balancing.same_nodes, found.nearest.there) in
-    let lacks = found.lacks in
     let apart : target ≢ source = (λ same. let e : excess v target ≡ excess v source = ap (excess v) same in omega (arith, ints)) in
     let scratch : q.scratch ≡ v.scratch = pushed.same.scratch ∙ fall.same.scratch in
     let excesses : (k : ℕ) → excess q k ≡ excess v k = (λ k. ap (λ (xs : List ℤ). «at» xs k) scratch) in
@@ -149,7 +152,8 @@ served g lists source target v p q w left lack balancing found on_curves there s
     let from_target = excesses target in
     let mid_target = mid_other target apart in
     let end_source = end_other source (λ same. apart (sym same)) in
-    let unit : IsMovedUnit g.nodes source target (excess v) (excess w) = record {
+    let unit : IsMovedAmount a g.nodes source target (excess v) (excess w) = record {
+      some = some;
       s_there = there;
       t_there = target_there;
       surplus = surplus;
@@ -171,7 +175,7 @@ served g lists source target v p q w left lack balancing found on_curves there s
         on_curves = subst (λ (r : Room). AreOnCurves g lists r.flows r.potentials) (sym is) pushed.on_curves;
         excesses = record {
           exact = λ i l.
-              let new = unit-at g.nodes source target (excess v) (excess w) unit i l in
+              let new = unit-at a g.nodes source target (excess v) (excess w) unit i l in
               let old = balancing.excesses.exact i l in
               let moved_by = pushed.divergences i l in
               let d : divergence (bare g) («at» w.flows) i ≡ divergence (bare g) («at» q.flows) i = ap (λ (x : List ℤ). divergence (bare g) («at» x) i) flows in
@@ -181,11 +185,12 @@ served g lists source target v p q w left lack balancing found on_curves there s
         };
       };
       sent = record {
-        fewer = unit-fewer g.nodes source target (excess v) (excess w) unit;
+        amount = a;
+        some = some;
+        fewer = unit-fewer a g.nodes source target (excess v) (excess w) unit;
         moves = λ j. (
-            let m = pushed.moves j in
-            let low = m.0 in
-            let high = m.1 in
+            let low = pushed.low j in
+            let high = pushed.high j in
             let e = at_x j in
             let f = at_y j in
             (omega (arith, ints), omega (arith, ints)));
@@ -193,13 +198,13 @@ served g lists source target v p q w left lack balancing found on_curves there s
             let e = at_u i in
             let h = fallen-falls g lists source target v p found on_curves balancing.same_nodes fall i in
             omega (arith, ints));
-        lacked = unit-lacked g.nodes source target (excess v) (excess w) unit;
+        lacked = unit-lacked a g.nodes source target (excess v) (excess w) unit;
         lacking = λ i l below.
             at_u i
             ∙ fallen-lacking g lists source target v p found on_curves balancing.same_nodes fall i
-            (unit-lacked g.nodes source target (excess v) (excess w) unit i l below);
+            (unit-lacked a g.nodes source target (excess v) (excess w) unit i l below);
         near = λ i. far_same i (at_u i) (fallen-far g lists source target v p found on_curves balancing.same_nodes fall i);
-        sated = unit-sated g.nodes source target (excess v) (excess w) unit;
+        sated = unit-sated a g.nodes source target (excess v) (excess w) unit;
       };
     }
   where
@@ -213,15 +218,37 @@ served g lists source target v p q w left lack balancing found on_curves there s
     far_same : (i : ℕ) → «at» w.potentials i ≡ «at» p.potentials i → IsNotFar g v p i → IsNotFar g v w i
     far_same i e far = far_for i e far.far
 
--- what the target lacks is still lacking once the source has given
-pub still-lacks : (v p q w : Room) (source target : ℕ) (left bound : ℤ) → excess v target <ℤ pos 0 → pos 0 <ℤ excess v source
-    → IsFallenBelow v.nodes bound v p → q.scratch ≡ p.scratch → w ≡ with_scratch q source left → excess w target <ℤ pos 0
-still-lacks v p q w source target left bound lacks surplus fall same is =
+-- the same for an amount that is at least 1
+pub served-by : (g : Graph) (lists : List (List Ext)) (source target : ℕ) (v p q w : Room) (a left lack : ℤ) → IsBalancing g lists v
+    → IsFound g lists source v target → AreOnCurves g lists v.flows v.potentials → source < g.nodes → pos 1 ≤ℤ a → a ≤ℤ excess v source
+    → excess v target ≤ℤ neg_ℤ a
+    → IsFallenBelow v.nodes (key v target) v p → IsPushed g lists a source target p q
+    → left ≡ excess q source -ℤ a → lack ≡ excess (with_scratch q source left) target +ℤ a
+    → w ≡ with_scratch (with_scratch q source left) target lack → IsServed g lists v w
+served-by g lists source target v p q w (pos n) left lack balancing found on_curves there some =
+    served g lists source target v p q w n left lack balancing found on_curves there (omega (arith, ints))
+served-by g lists source target v p q w (negsuc n) left lack balancing found on_curves there some = absurd (omega (arith, ints))
+
+-- what the target lacks it still lacks once the source has given
+pub still-lacks : (v p q w : Room) (source target : ℕ) (left bound most : ℤ) → excess v target <ℤ pos 0 → pos 0 <ℤ excess v source
+    → excess v target ≤ℤ most → IsFallenBelow v.nodes bound v p → q.scratch ≡ p.scratch → w ≡ with_scratch q source left → excess w target ≤ℤ most
+still-lacks v p q w source target left bound most lacks surplus enough fall same is =
     let apart : target ≢ source = (λ e. let f : excess v target ≡ excess v source = ap (excess v) e in omega (arith, ints)) in
     let written = ap (λ (r : Room). excess r target) is in
     let other = get_or-set_other q.scratch source target left (pos 0) apart in
     let before : excess q target ≡ excess v target = ap (λ (xs : List ℤ). «at» xs target) (same ∙ fall.same.scratch) in
     omega (arith, ints)
+
+-- an amount that the source has is one of the whole surplus
+pub surplus-within : (n i : ℕ) (e : ℕ → ℤ) (most : ℕ) → i < n → surpluses n e ≤ most → e i ≤ℤ pos most
+surplus-within n i e most l few =
+    let term = total_below-term n i (λ k. positive_part (e k)) l in
+    let under = part-under (e i) in
+    omega (arith, ints)
+  where
+    part-under : (z : ℤ) → z ≤ℤ pos (positive_part z)
+    part-under (pos k) = omega (arith, ints)
+    part-under (negsuc k) = omega (arith, ints)
 
 -- ---- one after the other
 
@@ -335,8 +362,10 @@ sent-before g u v w same nodes sent =
     let total : surpluses g.nodes (excess v) ≡ surpluses g.nodes (excess u) =
     total_below-same g.nodes (λ i. positive_part (excess v i)) (λ i. positive_part (excess u i)) (λ i l. ap positive_part (e i l)) in
     record {
+      amount = sent.amount;
+      some = sent.some;
       fewer = sent.fewer ∙ total;
-      moves = λ j. subst (λ (z : ℤ). IsWithin 1 («at» w.flows j -ℤ z)) (x j) (sent.moves j);
+      moves = λ j. subst (λ (z : ℤ). IsWithin sent.amount («at» w.flows j -ℤ z)) (x j) (sent.moves j);
       falls = λ i. (let m = sent.falls i in let s = p i in omega (arith, ints));
       lacked = λ i l h. (let m = sent.lacked i l h in let s = e i l in omega (arith, ints));
       lacking = λ i l h. sent.lacking i l h ∙ p i;

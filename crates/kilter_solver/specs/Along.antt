@@ -21,9 +21,12 @@ rise net u s = u (end_of net s) -ℤ u (begin_of net s)
 abbrev pub IsPairAlong : List Ext → Bool → ℤ → ℤ → Type 0
 IsPairAlong items forward x w = IsOnCurve 1 items x (directed forward w)
 
--- the flow x of the arc, moved by one in the direction of the step
+-- the flow x of the arc, moved by an amount in the direction of the step, and by one
+abbrev pub moved_by : ℤ → Bool → ℤ → ℤ
+moved_by amount forward x = x +ℤ directed forward amount
+
 abbrev pub moved : Bool → ℤ → ℤ
-moved forward x = x +ℤ directed forward (pos 1)
+moved = moved_by (pos 1)
 
 pub record IsFinitePrice (items : List Ext) (forward : Bool) (x h : ℤ) : Type 0 where
   pub upto : (v w : ℤ) → IsPairAlong items forward x v → v ≤ℤ w → w ≤ℤ h → IsPairAlong items forward x w

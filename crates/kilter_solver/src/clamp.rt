@@ -1,12 +1,12 @@
 // Clamping: every flow moves to the nearest one that is on its curve with the tension, and the excesses with it.
-ghost use Rattle.std.specs.Prelude.{◌≡◌, ◌+◌, ◌*◌, ◌<◌, ◌≤◌, ◌+ℤ◌, ◌-ℤ◌, length};
+ghost use Rattle.std.specs.Prelude.{◌≡◌, ℕ, ◌+◌, ◌*◌, ◌<◌, ◌≤◌, ◌+ℤ◌, ◌-ℤ◌, length};
 ghost use Rattle.theory.specs.Limits.{IsWithin, arg_most};
 ghost use Rattle.theory.specs.Network.{«at»};
 ghost use Rattle.theory.specs.Conserved.{tension};
 ghost use Rattle.net_incidence.specs.Graph.{bare};
 ghost use Rattle.theory.specs.Network.{list_at};
 ghost use Rattle.painted_search.specs.Writes.{with_scratch};
-ghost use Rattle.kilter_solver.specs.Ranges.{shift_most, word_most};
+ghost use Rattle.kilter_solver.specs.Ranges.{shift_most, word_most, ungrounded_most};
 ghost use Rattle.kilter_solver.specs.Excess.{excess};
 ghost use Rattle.kilter_solver.specs.Clamping.{HasNear, IsClosest, IsLoose, IsClampedBelow, IsClampable, IsClampedOne, IsClosestFlow, IsShifted};
 
@@ -41,9 +41,10 @@ impl<B: Bundle> Routing<'_, B> {
         self.shift_to(arc, near, work);
     }
 
-    fn tension(&self, arc: ArcId, work: &Work) -> i64
+    pub(crate) fn tension(&self, arc: ArcId, work: &Work) -> i64
         requires there { arc.0 < length self.now.net.now.arcs }
-        requires ready { IsClampable self.now.net.now (B.lists self.now.bundle.now) work.now arc.0 }
+        requires nodes { work.now.nodes ≡ self.now.net.now.nodes }
+        requires potentials { (i : ℕ) → IsWithin ungrounded_most («at» work.now.potentials i) }
         ensures value { result ≡ tension (bare self.now.net.now) («at» work.now.potentials) arc.0 }
         ensures within { IsWithin arg_most result }
     {

@@ -10,8 +10,8 @@ invariant-loop-i g l = record {
   sated : (k : ℕ) → k < l.i → excess l.work k ≤ℤ pos 0;
   within : l.i ≤ l.net.nodes;
   no_fewer : l.initial.steps ≤ l.steps;
-  count : l.steps + 2 * length l.net.arcs * g.B.Bundle.weight l.bundle * surpluses l.net.nodes (excess l.work)
-      ≤ l.initial.steps + 2 * length l.net.arcs * g.B.Bundle.weight l.bundle * surpluses l.net.nodes (excess l.initial.work);
+  count : l.steps + 3 * (length l.net.arcs * g.B.Bundle.weight l.bundle) * surpluses l.net.nodes (excess l.work)
+      ≤ l.initial.steps + 3 * (length l.net.arcs * g.B.Bundle.weight l.bundle) * surpluses l.net.nodes (excess l.initial.work);
 }
 
 abbrev pub decreases-loop-i : goal.decreases-loop-i

@@ -1,10 +1,18 @@
-use Rattle.std.proofs.Common.{◌≡◌, ℤ, sym, subst, ◌∙◌, w64, SFits, to_z, of_z, to_z-of_z, rules}
+use Rattle.std.proofs.Common.{◌≡◌, ℤ, sym, subst, ◌∙◌, w64, SFits, to_z, of_z, to_z-of_z, rules, arith}
+use Rattle.std.proofs.lemmas.Int.{ints}
 use Rattle.theory.specs.Network.{«at», list_at}
 use Rattle.theory.specs.Conserved.{tension}
 use Rattle.net_incidence.specs.Graph.{bare}
 use Rattle.kilter_solver.specs.Clamping.{IsClosestFlow}
 use Rattle.kilter_solver.proofs.Clamps.{closest-flow}
 use Rattle.kilter_solver.proofs.spread.Routing.closest_flow.Goals as goal
+
+pub tension-tension-requires-clause-potentials : goal.tension-tension-requires-clause-potentials
+tension-tension-requires-clause-potentials g c = λ i.
+    let u = c.requires.ready.potentials i in
+    let low = u.0 in
+    let high = u.1 in
+    (omega (arith, ints), omega (arith, ints))
 
 pub returns-clause-closest : goal.returns-clause-closest
 returns-clause-closest g c =

@@ -22,3 +22,9 @@ pub returns-in-Some-clause-sent : goal.returns-in-Some-clause-sent
 returns-in-Some-clause-sent g c =
     λ _. sent-before c.args.self.now.net.now c.args.work.now c.spread.new.work c.serve.new.work c.spread.ensures.state
     c.requires.balancing.same_nodes c.serve.ensures.sent
+
+pub serve-requires-clause-few : goal.serve-requires-clause-few
+serve-requires-clause-few g c =
+    let same = c.spread.ensures.state.excesses c.args.source.0 (omega (arith, c.requires.balancing.same_nodes, c.requires.there)) in
+    let few = c.requires.few in
+    omega (arith, ints)
