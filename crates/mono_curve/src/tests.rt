@@ -280,7 +280,7 @@ const FAULTS: [(&[Ext], i128, CurveFault, &str); 6] = [
         &[PlusInf; 4005],
         LARGE,
         CurveFault::Long,
-        "a curve has at most 4003 items",
+        "a list of too many items",
     ),
     (
         &[At(2_000_000), At(1), MinusInf],
