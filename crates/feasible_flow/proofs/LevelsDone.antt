@@ -16,14 +16,14 @@ use Rattle.theory.specs.Certificate.{AreNumbers}
 use Rattle.theory.specs.Views.{level_items}
 use Rattle.theory.proofs.Counting.{total_below-most}
 use Rattle.net_incidence.specs.Graph.{Graph, bare}
-use Rattle.net_incidence.specs.WithoutBases.{without_bases}
+use Rattle.net_incidence.specs.WithoutBases.{IsPassable, without_bases}
 use Rattle.net_incidence.proofs.WithoutBases.{without_bases-items, without_bases-network}
 use Rattle.curve_views.specs.LevelLaws.{LevelCutLaw}
 use Rattle.feasible_flow.specs.Violations.{violation, violation_at, total_violation, near_most, AreNear}
 use Rattle.feasible_flow.specs.UnderWay.{IsUnderWay}
 use Rattle.feasible_flow.specs.ByLevels.{levels_of, leveled, flow_limit, IsSettled, WillDo}
 use Rattle.feasible_flow.proofs.OneArc.{inside}
-use Rattle.feasible_flow.proofs.Lists.{AreCurves, levels-at}
+use Rattle.feasible_flow.proofs.Lists.{are-curves, levels-at}
 use Rattle.feasible_flow.proofs.Doubling.{violation-twice, violation-top, violation-last}
 use Rattle.feasible_flow.proofs.ViolationFalls.{flow-within, zero-conserved}
 
@@ -70,9 +70,11 @@ pub record AreLeveled {A : Type 0} (f : A → List Ext) (g : Graph) (curves : Li
   pub one_each : length curves ≡ length g.arcs
   pub few : length g.arcs ≤ grounded_arcs_most
 
-pub leveled-curves : {A : Type 0} (f : A → List Ext) (g : Graph) (curves : List A) → AreCurves (map f curves) → length curves ≡ length g.arcs
-    → length g.arcs ≤ grounded_arcs_most → AreLeveled f g curves
-leveled-curves f g curves are one_each few = record { are_lists = are.are_lists; within = are.within; one_each = one_each; few = few }
+pub leveled-curves : {A : Type 0} (f : A → List Ext) → ((a : A) → IsCurveList (f a)) → ((a : A) → AreWithin number_most (f a)) → (g : Graph)
+    (curves : List A) → IsPassable g (length curves) → AreLeveled f g curves
+leveled-curves f are_lists within g curves passable =
+    let are = are-curves f are_lists within curves in
+    record { are_lists = are.are_lists; within = are.within; one_each = passable.one_curve_each; few = passable.few_arcs }
 
 -- ---- the first level
 

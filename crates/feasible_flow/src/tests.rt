@@ -122,6 +122,17 @@ fn finds_flows(rt: HostRuntime) -> Result<(), Fail> {
             .as_slice(),
             [4, 3, 1, 1].as_slice(),
         ),
+        // Great flows with nothing to spare.
+        (
+            3,
+            [
+                (0, 1, At(999_999), At(1_000_000)),
+                (1, 2, At(0), PlusInf),
+                (2, 0, MinusInf, At(999_999)),
+            ]
+            .as_slice(),
+            [999_999, 999_999, 999_999].as_slice(),
+        ),
     ] {
         let (answer, work) = passed::<Brand>(&rt, nodes, rows, &[], Blank::new(1))?;
         assert_eq!(rt; answer, FlowAns::Flow, "for {rows:?}");
@@ -181,6 +192,16 @@ fn finds_cuts(rt: HostRuntime) -> Result<(), Fail> {
             2,
             [(0, 1, At(-9), At(-4)), (0, 1, At(-3), At(3))].as_slice(),
             [true, false].as_slice(),
+        ),
+        // A million must come to node 1, and one less can leave it.
+        (
+            2,
+            [
+                (0, 1, At(1_000_000), At(1_000_000)),
+                (1, 0, At(0), At(999_999)),
+            ]
+            .as_slice(),
+            [false, true].as_slice(),
         ),
         // Node 1 can send to node 2 alone, which has no way on.
         (

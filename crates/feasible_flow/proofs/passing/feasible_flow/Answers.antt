@@ -6,7 +6,6 @@ use Rattle.feasible_flow.specs.Violations.{total_violation}
 use Rattle.feasible_flow.specs.UnderWay.{round_cost}
 use Rattle.feasible_flow.specs.ByLevels.{levels_of, level_cost}
 use Rattle.curve_views.proofs.LevelCuts.{cut_of_level}
-use Rattle.feasible_flow.proofs.Lists.{are-curves}
 use Rattle.feasible_flow.proofs.LevelsDone.{leveled-curves, way-begun, settled-more, settled-feasible, settled-numbers, cut-of_level}
 use Rattle.feasible_flow.proofs.Spent.{either-spent, start-spent, levels-spent}
 use Rattle.feasible_flow.proofs.passing.feasible_flow.Goals as goal
@@ -16,8 +15,7 @@ settle_all-requires-clause-under_way g c =
     let items = g.C.Monotone.items in
     let net = c.args.net.now in
     let curves = c.args.curves.now in
-    let are = leveled-curves items net curves (are-curves items g.met.C.Monotone.is_list g.met.C.Monotone.items_within curves)
-    c.requires.passable.one_curve_each c.requires.passable.few_arcs in
+    let are = leveled-curves items g.met.C.Monotone.is_list g.met.C.Monotone.items_within net curves c.requires.passable in
     way-begun items net curves c.args.work.now.flows are (c.args.work.now.sized.one_flow_each ∙ c.requires.fits.same_arcs)
     (c.will_do-will_do.ensures.answer.0 c.if-will_do.true)
 
@@ -26,8 +24,7 @@ returns-then-will_do-clause-flow g c found =
     let items = g.C.Monotone.items in
     let net = c.args.net.now in
     let curves = c.args.curves.now in
-    let are = leveled-curves items net curves (are-curves items g.met.C.Monotone.is_list g.met.C.Monotone.items_within curves)
-    c.requires.passable.one_curve_each c.requires.passable.few_arcs in
+    let are = leveled-curves items g.met.C.Monotone.is_list g.met.C.Monotone.items_within net curves c.requires.passable in
     settled-feasible net (map items curves) c.settle_all.new.work.flows
     (settled-more items net curves 0 level_most c.settle_all.new.work.flows are (omega arith) c.settle_all.ensures.under_way
     (c.settle_all.ensures.settled (c.answer.ensures.flow found)))
@@ -37,8 +34,7 @@ returns-then-will_do-clause-within g c found =
     let items = g.C.Monotone.items in
     let net = c.args.net.now in
     let curves = c.args.curves.now in
-    let are = leveled-curves items net curves (are-curves items g.met.C.Monotone.is_list g.met.C.Monotone.items_within curves)
-    c.requires.passable.one_curve_each c.requires.passable.few_arcs in
+    let are = leveled-curves items g.met.C.Monotone.is_list g.met.C.Monotone.items_within net curves c.requires.passable in
     settled-numbers net (map items curves) c.settle_all.new.work.flows c.requires.passable.few_arcs
     (settled-more items net curves 0 level_most c.settle_all.new.work.flows are (omega arith) c.settle_all.ensures.under_way
     (c.settle_all.ensures.settled (c.answer.ensures.flow found)))
@@ -48,8 +44,7 @@ returns-then-will_do-clause-cut g c found =
     let items = g.C.Monotone.items in
     let net = c.args.net.now in
     let curves = c.args.curves.now in
-    let are = leveled-curves items net curves (are-curves items g.met.C.Monotone.is_list g.met.C.Monotone.items_within curves)
-    c.requires.passable.one_curve_each c.requires.passable.few_arcs in
+    let are = leveled-curves items g.met.C.Monotone.is_list g.met.C.Monotone.items_within net curves c.requires.passable in
     cut-of_level cut_of_level items net curves 0 c.settle_all.new.work.reached are (length-map curves items ∙ c.requires.passable.one_curve_each)
     (c.settle_all.ensures.cut (c.answer.ensures.cut found))
 
