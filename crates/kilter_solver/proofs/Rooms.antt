@@ -1,7 +1,7 @@
 -- How much a route has room for. At a tension the flows of a curve are a range, so where a flow may move by an amount it may move by
 -- every lesser one. The arc of each label is read once on the way back. It has one end of the label's rank and the other of the rank
 -- below, so the arcs between nodes of no higher rank than the one that was reached are still to be read: no more readings than arcs.
-use Rattle.std.proofs.Common.{◌≡◌, ◌≢◌, inr, inl, ℕ, zero, suc, ◌+◌, ◌-◌, ◌*◌, ◌<◌, ◌≤◌, ℤ, pos, ◌+ℤ◌, ◌-ℤ◌, neg_ℤ, ◌≤ℤ◌, Bool, true, false, if◌then◌else◌, Option, Some, List, length, refl, sym, ap, ◌∙◌, subst, ⊎_elim, arith}
+use Rattle.std.proofs.Common.{◌≡◌, ◌≢◌, inr, inl, ℕ, zero, suc, ◌+◌, ◌-◌, ◌*◌, ◌<◌, ◌≤◌, ℤ, pos, ◌+ℤ◌, ◌-ℤ◌, ◌≤ℤ◌, Bool, true, false, if◌then◌else◌, Some, List, length, refl, sym, ap, ◌∙◌, subst, ⊎_elim, arith}
 use Rattle.std.specs.Prelude.{max}
 use Rattle.std.proofs.lemmas.Int.{ints}
 use Rattle.std.proofs.lemmas.Bool.{cases_eq, cases_lt}

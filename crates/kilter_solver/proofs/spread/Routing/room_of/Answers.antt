@@ -1,5 +1,4 @@
-use Rattle.std.proofs.Common.{◌≡◌, ℤ, pos, ◌+ℤ◌, ◌-ℤ◌, true, false, sym, ap, ◌∙◌, subst, w64, SFits, to_z, of_z, to_z-of_z, rules, arith}
-use Rattle.std.proofs.lemmas.Int.{ints}
+use Rattle.std.proofs.Common.{◌≡◌, ℤ, pos, ◌+ℤ◌, ◌-ℤ◌, sym, ◌∙◌, subst, w64, SFits, to_z, of_z, to_z-of_z, rules}
 use Rattle.std.proofs.lemmas.Bool.{false≢true}
 use Rattle.theory.specs.Readings.{IsUnder, IsOver}
 use Rattle.theory.specs.Network.{«at»}

@@ -1,4 +1,4 @@
-use Rattle.std.proofs.Common.{◌≡◌, ℤ, pos, ◌+ℤ◌, ◌-ℤ◌, neg_ℤ, List, refl, sym, ap, ◌∙◌, subst, w64, SFits, to_z, of_z, to_z-of_z, rules, arith}
+use Rattle.std.proofs.Common.{◌≡◌, ℤ, ◌+ℤ◌, ◌-ℤ◌, neg_ℤ, List, refl, sym, ap, ◌∙◌, subst, w64, SFits, to_z, of_z, to_z-of_z, rules, arith}
 use Rattle.std.proofs.lemmas.Int.{ints}
 use Rattle.theory.specs.Network.{«at»}
 use Rattle.painted_search.specs.Room.{Room}
