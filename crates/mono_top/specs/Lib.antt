@@ -14,8 +14,10 @@ pub mod Replies
 pub mod Reports
 pub mod Request
 pub mod ShowsCurve
+pub mod ShowsPieces
 pub mod Solves
 pub mod Starts
 pub mod Status
+pub mod TooBig
 pub mod TrialNumber
 pub mod VerdictLines

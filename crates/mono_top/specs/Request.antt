@@ -7,12 +7,13 @@ use Rattle.mono_top.specs.TrialNumber.{trial_number}
 use Rattle.mono_top.specs.declared.command.Command.{Command}
 use Rattle.mono_top.specs.declared.command.Command.TheVariants.{OnModel, Trial}
 use Rattle.mono_top.specs.declared.command.Task.{Task}
-use Rattle.mono_top.specs.declared.command.Task.TheVariants.{Solve, Check, Feasible, Curve}
+use Rattle.mono_top.specs.declared.command.Task.TheVariants.{Solve, Check, Pieces, Feasible, Curve}
 
 -- what may be asked about a model, with the names of the files that are read after the model's
 pub data Question : Type 0 where
   solve : Question
   check : (certificate : List ℕ) → Question
+  pieces : (certificate : List ℕ) → Question
   feasible : Question
   show_curve : (arc : List ℕ) → Question
 
@@ -33,7 +34,8 @@ request_of (command ∷ word ∷ []) =
     else (if pointwise nat_eq command (codes "feasible") then Some (about_model word feasible) else None))
 request_of (command ∷ model ∷ other ∷ []) =
     if pointwise nat_eq command (codes "check") then Some (about_model model (check other))
-    else (if pointwise nat_eq command (codes "curve") then Some (about_model model (show_curve other)) else None)
+    else (if pointwise nat_eq command (codes "pieces") then Some (about_model model (pieces other))
+    else (if pointwise nat_eq command (codes "curve") then Some (about_model model (show_curve other)) else None))
 request_of words = None
 
 -- what the words of a call ask for
@@ -43,6 +45,7 @@ asked words = request_of (texts words)
 -- the files that are read after the model, in this order
 abbrev pub later_files : Question → List (List ℕ)
 later_files (check certificate) = certificate ∷ []
+later_files (pieces certificate) = certificate ∷ []
 later_files question = []
 
 -- the files that are read, in this order
@@ -55,6 +58,7 @@ files_of (Some (about_trial number)) = []
 abbrev pub question_by : Task → Question
 question_by Solve = solve
 question_by (Check certificate) = check certificate.now
+question_by (Pieces certificate) = pieces certificate.now
 question_by Feasible = feasible
 question_by (Curve arc) = show_curve arc.now
 

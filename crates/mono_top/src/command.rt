@@ -17,6 +17,7 @@ pub(crate) enum Command<'a> {
 pub(crate) enum Task<'a> {
     Solve,
     Check { certificate: &'a str },
+    Pieces { certificate: &'a str },
     Feasible,
     Curve { arc: &'a str },
 }
@@ -64,6 +65,8 @@ fn with_two<'a>(command: &str, model: &'a str, other: &'a str) -> Option<Command
 {
     let task = if command == "check" {
         Task::Check { certificate: other }
+    } else if command == "pieces" {
+        Task::Pieces { certificate: other }
     } else if command == "curve" {
         Task::Curve { arc: other }
     } else {

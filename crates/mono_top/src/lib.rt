@@ -7,6 +7,7 @@ mod command;
 mod feasible;
 mod fetch;
 mod lines;
+mod pieces;
 mod reply;
 mod show_curve;
 mod solve;
@@ -24,6 +25,8 @@ pub use top::run;
 mod check_tests;
 #[cfg(test)]
 mod feasible_tests;
+#[cfg(test)]
+mod pieces_tests;
 #[cfg(test)]
 mod solve_tests;
 #[cfg(test)]
