@@ -1,0 +1,11 @@
+pub mod Pivots
+pub mod Exchange
+pub mod Ground
+pub mod Paths
+pub mod Circuits
+pub mod Bridge
+pub mod Cells
+pub mod Leading
+pub mod Led
+pub mod Tables
+pub mod Models
