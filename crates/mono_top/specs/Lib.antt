@@ -1,4 +1,5 @@
 pub mod Answer
+pub mod Ascending
 pub mod Causes
 pub mod Checks
 pub mod CountsReadings
@@ -15,6 +16,7 @@ pub mod Reports
 pub mod Request
 pub mod ShowsCurve
 pub mod ShowsPieces
+pub mod ShowsTableau
 pub mod Solves
 pub mod Starts
 pub mod Status

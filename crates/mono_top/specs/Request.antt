@@ -7,7 +7,7 @@ use Rattle.mono_top.specs.TrialNumber.{trial_number}
 use Rattle.mono_top.specs.declared.command.Command.{Command}
 use Rattle.mono_top.specs.declared.command.Command.TheVariants.{OnModel, Trial}
 use Rattle.mono_top.specs.declared.command.Task.{Task}
-use Rattle.mono_top.specs.declared.command.Task.TheVariants.{Solve, Check, Pieces, Feasible, Curve}
+use Rattle.mono_top.specs.declared.command.Task.TheVariants.{Solve, Check, Pieces, Feasible, Curve, Tableau}
 
 -- what may be asked about a model, with the names of the files that are read after the model's
 pub data Question : Type 0 where
@@ -16,6 +16,7 @@ pub data Question : Type 0 where
   pieces : (certificate : List ℕ) → Question
   feasible : Question
   show_curve : (arc : List ℕ) → Question
+  show_tableau : Question
 
 -- what may be asked for: a question about a model, with the name of its file; or the trial model of a number, which names no file
 pub data Request : Type 0 where
@@ -31,7 +32,8 @@ abbrev pub request_of : List (List ℕ) → Option Request
 request_of (command ∷ word ∷ []) =
     if pointwise nat_eq command (codes "trial") then option_map about_trial (trial_number word)
     else (if pointwise nat_eq command (codes "solve") then Some (about_model word solve)
-    else (if pointwise nat_eq command (codes "feasible") then Some (about_model word feasible) else None))
+    else (if pointwise nat_eq command (codes "feasible") then Some (about_model word feasible)
+    else (if pointwise nat_eq command (codes "tableau") then Some (about_model word show_tableau) else None)))
 request_of (command ∷ model ∷ other ∷ []) =
     if pointwise nat_eq command (codes "check") then Some (about_model model (check other))
     else (if pointwise nat_eq command (codes "pieces") then Some (about_model model (pieces other))
@@ -61,6 +63,7 @@ question_by (Check certificate) = check certificate.now
 question_by (Pieces certificate) = pieces certificate.now
 question_by Feasible = feasible
 question_by (Curve arc) = show_curve arc.now
+question_by Tableau = show_tableau
 
 abbrev pub request_by : Command → Request
 request_by (OnModel model task) = about_model model.now (question_by task)

@@ -16,6 +16,7 @@ use crate::lines;
 use crate::pieces::pieces;
 use crate::reply::Reply;
 use crate::show_curve::show_curve;
+use crate::show_tableau::show_tableau;
 use crate::solve::solve;
 use crate::status::Status;
 use crate::trial::trial;
@@ -111,5 +112,6 @@ fn answer<S: Shelf, L: Ledger>(
         Task::Pieces { certificate } => Ok(pieces(alloc, shelf, model, certificate)?),
         Task::Feasible => Ok(feasible(alloc, model, steps)?),
         Task::Curve { arc } => Ok(show_curve(alloc, model, arc)?),
+        Task::Tableau => Ok(show_tableau(alloc, model)?),
     }
 }

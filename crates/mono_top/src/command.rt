@@ -20,6 +20,7 @@ pub(crate) enum Task<'a> {
     Pieces { certificate: &'a str },
     Feasible,
     Curve { arc: &'a str },
+    Tableau,
 }
 
 /// The words' own bytes serve as names, so this takes no memory.
@@ -44,6 +45,8 @@ fn with_one<'a>(command: &str, word: &'a str) -> Option<Command<'a>>
         Task::Solve
     } else if command == "feasible" {
         Task::Feasible
+    } else if command == "tableau" {
+        Task::Tableau
     } else {
         return None;
     };

@@ -2,6 +2,7 @@
 #![tactic(auto)]
 
 mod answer;
+mod ascending;
 mod check;
 mod command;
 mod feasible;
@@ -10,6 +11,7 @@ mod lines;
 mod pieces;
 mod reply;
 mod show_curve;
+mod show_tableau;
 mod solve;
 mod status;
 mod top;
@@ -29,5 +31,7 @@ mod feasible_tests;
 mod pieces_tests;
 #[cfg(test)]
 mod solve_tests;
+#[cfg(test)]
+mod tableau_tests;
 #[cfg(test)]
 mod tests;
