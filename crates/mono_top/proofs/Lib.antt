@@ -6,3 +6,5 @@ pub mod Ends
 pub mod DueLemmas
 pub mod HeadlineLemmas
 pub mod NumberLemmas
+pub mod AscendingLemmas
+pub mod TableauLemmas

@@ -1,7 +1,6 @@
 -- The places of a list of arcs in the ascending order of the arcs' numbers.
-use Rattle.std.specs.Prelude.{◌≡◌, ◌≢◌, ℕ, ◌+◌, ◌<◌, List, length}
+use Rattle.std.specs.Prelude.{◌≡◌, ◌≢◌, ℕ, ◌<◌, List, length}
 use Rattle.tucker_tableau.specs.Tableau.{number}
-use Rattle.tucker_tableau.specs.Table.{Table}
 
 -- each place once, and the numbers there ascend
 pub record AreAscending (arcs places : List ℕ) : Type 0 where
@@ -20,8 +19,3 @@ pub record AreAscendingTo (arcs places : List ℕ) (bound : ℕ) : Type 0 where
 pub record AreOnce (arcs : List ℕ) (bound : ℕ) : Type 0 where
   pub below : (k : ℕ) → k < length arcs → number arcs k < bound
   pub differ : (i k : ℕ) → i < k → k < length arcs → number arcs i ≢ number arcs k
-
--- the rows and the columns of a table are arcs of a network of so many arcs, each once
-pub record HasArcsOnce (table : Table) : Type 0 where
-  pub rows : AreOnce table.rows (length table.rows + length table.columns)
-  pub columns : AreOnce table.columns (length table.rows + length table.columns)

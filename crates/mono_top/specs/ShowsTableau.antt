@@ -1,6 +1,6 @@
 -- What `tableau` answers to a model: the tableau of the tree that the model's arcs lead to, rows and columns in the order
 -- of their arcs.
-use Rattle.std.specs.Prelude.{◌≡◌, ℕ, zero, suc, ◌<◌, ℤ, pos, negsuc, List, [], ◌∷◌, ◌++◌, length, codes}
+use Rattle.std.specs.Prelude.{◌≡◌, ℕ, zero, suc, ℤ, pos, negsuc, List, [], ◌∷◌, ◌++◌, length, codes}
 use Rattle.theory.specs.Grounded.{Entries, grounded, arc_name}
 use Rattle.model_text.specs.Printed.{printed_line, printed_number}
 use Rattle.cert_text.specs.CertificateText.{texts_below}

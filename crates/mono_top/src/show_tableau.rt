@@ -58,7 +58,13 @@ fn print_tableau(alloc: Global, model: &Model, tableau: &Tableau) -> Result<Byte
     let mut out = Vec::new(alloc);
     append_size(&mut out, tableau)?;
     append_columns(&mut out, model, tableau, columns.as_slice())?;
-    append_rows(&mut out, model, tableau, rows.as_slice(), columns.as_slice())?;
+    append_rows(
+        &mut out,
+        model,
+        tableau,
+        rows.as_slice(),
+        columns.as_slice(),
+    )?;
     Ok(ByteText::of_vec(out))
 }
 
@@ -158,9 +164,18 @@ fn append_signs(
         ++ texts_below (length columns.now) (λ k. sign_text tableau.now i (number columns.now k))) }
 {
     for k in 0..columns.len() {
-        out.push(b' ')?;
-        out.push(sign_of(tableau.entry(i, columns[k])))?;
+        append_sign(out, tableau, i, columns[k])?;
     }
+    Ok(())
+}
+
+fn append_sign(out: &mut Vec<u8>, tableau: &Tableau, i: usize, j: usize) -> Result<(), AllocError>
+    requires row { i < length tableau.now.rows }
+    requires column { j < length tableau.now.columns }
+    ensures { OnOk result (out.new.items ≡ out.old.items ++ sign_text tableau.now i j) }
+{
+    out.push(b' ')?;
+    out.push(sign_of(tableau.entry(i, j)))?;
     Ok(())
 }
 
