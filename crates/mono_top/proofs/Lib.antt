@@ -1,3 +1,5 @@
+pub mod PiecesLemmas
+pub mod SplitLemmas
 pub mod StartLemmas
 pub mod FetchLemmas
 pub mod ModelFileLemmas

@@ -7,14 +7,14 @@ ghost use Rattle.theory.specs.Conserved.{IsConserved};
 ghost use Rattle.theory.specs.Network.{«at»};
 ghost use Rattle.theory.specs.Grounded.{grounded};
 ghost use Rattle.theory.specs.Limits.{file_most};
-ghost use Rattle.cert_text.specs.CertificateText.{step_line};
+ghost use Rattle.cert_text.specs.CertificateText.{step_line, texts_below};
 ghost use Rattle.cert_text.specs.Shown.{shown};
 ghost use Rattle.flow_pieces.specs.Pieces.{piece_at};
 ghost use Rattle.mono_top.specs.Answer.{AnswersModel, ReadsThen};
 ghost use Rattle.mono_top.specs.Replies.{RepliesWith};
 ghost use Rattle.mono_top.specs.Reports.{count_line};
 ghost use Rattle.mono_top.specs.Request.{pieces as pieces_question};
-ghost use Rattle.mono_top.specs.ShowsPieces.{SplitsText, SplitsCertificate, ShowsFlow, IsSplit, AreThere, flow_of, weight_line, piece_text, pieces_text};
+ghost use Rattle.mono_top.specs.ShowsPieces.{SplitsText, SplitsCertificate, ShowsFlow, IsSplit, AreThere, flow_of, weight_line, piece_text, pieces_text, steps_text};
 ghost use Rattle.mono_top.specs.Starts.{StartsLater};
 ghost use Rattle.mono_top.specs.TooBig.{IsTooBigForPieces};
 ghost use Rattle.mono_top.specs.declared.lines.Place.{Place as Files};
@@ -173,9 +173,7 @@ fn print_pieces(alloc: Global, model: &Model, list: &PieceList) -> Result<ByteTe
 {
     let mut out = Vec::new(alloc);
     append_count(&mut out, list)?;
-    for k in 0..list.count() {
-        append_piece(&mut out, model, list, k)?;
-    }
+    append_pieces(&mut out, model, list)?;
     Ok(ByteText::of_vec(out))
 }
 
@@ -185,6 +183,17 @@ fn append_count(out: &mut Vec<u8>, list: &PieceList) -> Result<(), AllocError>
     out.extend_from_slice(b"pieces")?;
     append_number(out, list.count())?;
     out.push(b'\n')?;
+    Ok(())
+}
+
+fn append_pieces(out: &mut Vec<u8>, model: &Model, list: &PieceList) -> Result<(), AllocError>
+    requires { AreThere model.now.entries list.now }
+    ensures { OnOk result (out.new.items
+        ≡ out.old.items ++ texts_below (length list.now) (λ k. piece_text model.now.entries (piece_at list.now k))) }
+{
+    for k in 0..list.count() {
+        append_piece(out, model, list, k)?;
+    }
     Ok(())
 }
 
@@ -200,6 +209,20 @@ fn append_piece(
     ensures { OnOk result (out.new.items ≡ out.old.items ++ piece_text model.now.entries (piece_at list.now k)) }
 {
     append_weight(out, list.weight(k))?;
+    append_steps(out, model, list, k)
+}
+
+fn append_steps(
+    out: &mut Vec<u8>,
+    model: &Model,
+    list: &PieceList,
+    k: usize,
+) -> Result<(), AllocError>
+    requires are_there { AreThere model.now.entries list.now }
+    requires there { k < length list.now }
+    ensures { OnOk result (out.new.items ≡ out.old.items
+        ++ steps_text model.now.entries (piece_at list.now k) (length (piece_at list.now k).walk)) }
+{
     for i in 0..list.len(k) {
         append_step(out, model, list.step(k, i))?;
     }
