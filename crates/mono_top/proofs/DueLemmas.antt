@@ -15,7 +15,7 @@ use Rattle.mono_top.specs.Causes.{Asks, AsksFaulty, AsksInvalid, AsksNoFlow, Ask
 use Rattle.mono_top.specs.Checks.{ChecksText}
 use Rattle.mono_top.specs.Due.{IsDue, IsDueOfFiles}
 use Rattle.mono_top.specs.OfModel.{OfModel}
-use Rattle.mono_top.specs.Request.{Request, about_model, about_trial, Question, solve, check, pieces, show_curve, later_files, files_of}
+use Rattle.mono_top.specs.Request.{Request, about_model, about_trial, Question, solve, check, pieces, show_curve, show_tableau, later_files, files_of}
 use Rattle.mono_top.specs.Reading.{IsOpen, IsOpenFor}
 use Rattle.mono_top.specs.ShowsCurve.{ShowsAt}
 use Rattle.mono_top.specs.ShowsPieces.{SplitsText}
@@ -217,12 +217,16 @@ too_big_only files (pieces certificate) m request outside status text asks (inr 
     let second = of_text Second certificate (SplitsText m) outside status text reads (λ e. cc) (λ e. cc) (λ e. cc) in
     let file = asks.2 in
     absurd (split_is_small m second.bytes status (split_as m second.bytes status text (spelled_is_formed file.0 m file.3) second.next) is)
+too_big_only files show_tableau m request outside status text asks (inl (big, refused, said)) ended is = (show_tableau, m, asks, big)
+too_big_only files show_tableau m request outside status text asks (inr (small, shows)) ended is = let done = shows.done in absurd cc
 too_big_only files question m request outside status text asks answers ended is = absurd (false≢true ended)
 
 big_is_refused : (question : Question) (m : Entries) (outside : Outside) (status : Status) (text : List ℕ)
     → AnswersModel question outside m status text → IsTooBigFor question m → status ≡ TooBig
 big_is_refused (pieces certificate) m outside status text (inl (big, is, said)) too_big = is
 big_is_refused (pieces certificate) m outside status text (inr (small, reads)) too_big = absurd (small too_big)
+big_is_refused show_tableau m outside status text (inl (big, is, said)) too_big = is
+big_is_refused show_tableau m outside status text (inr (small, shows)) too_big = absurd (small too_big)
 big_is_refused question m outside status text answers too_big = absurd too_big
 
 unknown_shows : (m : Entries) (at : Option ℕ) (status : Status) (text : List ℕ) → ShowsAt m at status text → at ≡ None → status ≡ UnknownArc

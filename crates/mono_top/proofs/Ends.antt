@@ -16,10 +16,11 @@ use Rattle.outside_io.specs.Seen.{Outside}
 use Rattle.mono_top.specs.Answer.{AnswersModel, ReadsThen, UnlessTooBig}
 use Rattle.mono_top.specs.Checks.{ChecksText, status_by}
 use Rattle.mono_top.specs.FindsFeasible.{status_of_parts}
-use Rattle.mono_top.specs.Request.{Question, solve, check, pieces, feasible, show_curve, later_files}
+use Rattle.mono_top.specs.Request.{Question, solve, check, pieces, feasible, show_curve, show_tableau, later_files}
 use Rattle.mono_top.specs.Reading.{IsOpenFor}
 use Rattle.mono_top.specs.ShowsCurve.{ShowsAt}
 use Rattle.mono_top.specs.ShowsPieces.{SplitsText, ShowsBy, ShowsFlow, flow_of}
+use Rattle.mono_top.specs.ShowsTableau.{ShowsTableau}
 use Rattle.mono_top.specs.TooBig.{IsTooBigFor}
 use Rattle.mono_top.specs.Solves.{status_of}
 use Rattle.mono_top.specs.declared.lines.Place.TheVariants.{Second}
@@ -51,6 +52,10 @@ is_showing Done = true
 is_showing UnknownArc = true
 is_showing status = false
 
+abbrev pub is_done : Status → Bool
+is_done Done = true
+is_done status = false
+
 -- or the model was too big
 abbrev pub or_too_big : (Status → Bool) → Status → Bool
 or_too_big own TooBig = true
@@ -69,6 +74,7 @@ ends (check certificate) = or_refused is_judgement
 ends (pieces certificate) = or_too_big (or_refused is_splitting)
 ends feasible = is_kind
 ends (show_curve arc) = is_showing
+ends show_tableau = or_too_big is_done
 
 -- a status that passes a test is none that fails it
 pub not_by : (test : Status → Bool) (status other : Status) → test status ≡ true → test other ≡ false → status ≢ other
@@ -157,6 +163,8 @@ answer_ends (pieces certificate) outside m status text answers =
     (later_ends is_splitting certificate (SplitsText m) outside status text (λ bytes its. split_ends m bytes status text its)) answers
 answer_ends feasible outside m status text finds = passes is_kind status (status_of_parts finds.flow finds.tension) finds.kind (parts_end finds.flow finds.tension)
 answer_ends (show_curve arc) outside m status text shows = shows_end m (place_of (arc_names m) arc) status text shows
+answer_ends show_tableau outside m status text answers =
+    unless_too_big_ends is_done (IsTooBigFor show_tableau m) (ShowsTableau m) status text (λ shows. passes is_done status Done shows.done refl) answers
 
 -- what the answer says of the files that are read after the model
 pub later_due : (question : Question) (outside : Outside) (m : Entries) (status : Status) (text : List ℕ) → AnswersModel question outside m status text
@@ -177,6 +185,17 @@ later_due (pieces certificate) outside m status text (inr (small, reads)) = inr 
   small,
   of_last (IsOpenFor (pieces certificate)) Second certificate (SplitsText m) outside status text
   (λ bytes its. read_by is_splitting status (split_ends m bytes status text its) refl refl refl refl refl) reads,
+)
+later_due show_tableau outside m status text (inl (big, is, said)) = inl (big, record {
+  held = λ e. absurd cc;
+  read = λ e. absurd cc;
+  short = λ e. absurd cc;
+  written = λ e. absurd cc;
+  room = λ e. absurd cc;
+})
+later_due show_tableau outside m status text (inr (small, shows)) = inr (
+  small,
+  of_none (IsOpenFor show_tableau) outside status (read_by is_done status (passes is_done status Done shows.done refl) refl refl refl refl refl),
 )
 later_due question outside m status text answers = inr (λ big. big,
     of_none (IsOpenFor question) outside status (read_by (ends question) status (answer_ends question outside m status text answers) refl refl refl refl refl))
