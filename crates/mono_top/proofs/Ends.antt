@@ -163,7 +163,7 @@ pub later_due : (question : Question) (outside : Outside) (m : Entries) (status 
     → IsDueBehind (IsOpenFor question) (IsTooBigFor question m) (later_files question) outside status
 later_due (check certificate) outside m status text checks = inr (
   λ big. big,
-  of_last (IsOpenFor (check certificate)) Second certificate (ChecksText m) outside status text
+  of_last (check certificate) Second certificate (ChecksText m) outside status text
   (λ bytes its. read_by is_judgement status (text_ends m bytes status text its) refl refl refl refl refl) checks,
 )
 later_due (pieces certificate) outside m status text (inl (big, is, said)) = inl (big, record {
@@ -175,7 +175,7 @@ later_due (pieces certificate) outside m status text (inl (big, is, said)) = inl
 })
 later_due (pieces certificate) outside m status text (inr (small, reads)) = inr (
   small,
-  of_last (IsOpenFor (pieces certificate)) Second certificate (SplitsText m) outside status text
+  of_last (pieces certificate) Second certificate (SplitsText m) outside status text
   (λ bytes its. read_by is_splitting status (split_ends m bytes status text its) refl refl refl refl refl) reads,
 )
 later_due question outside m status text answers = inr (λ big. big,
