@@ -171,31 +171,39 @@ pub later_due : (question : Question) (outside : Outside) (m : Entries) (status 
     → IsDueBehind (IsOpenFor question) (IsTooBigFor question m) (later_files question) outside status
 later_due (check certificate) outside m status text checks = inr (
   λ big. big,
-  of_last (IsOpenFor (check certificate)) Second certificate (ChecksText m) outside status text
-  (λ bytes its. read_by is_judgement status (text_ends m bytes status text its) refl refl refl refl refl) checks,
+  of_last (check certificate) Second certificate (ChecksText m) outside status text
+      (λ bytes its. read_by is_judgement status (text_ends m bytes status text its) refl refl refl refl refl) checks,
 )
-later_due (pieces certificate) outside m status text (inl (big, is, said)) = inl (big, record {
-  held = λ e. absurd cc;
-  read = λ e. absurd cc;
-  short = λ e. absurd cc;
-  written = λ e. absurd cc;
-  room = λ e. absurd cc;
-})
+later_due (pieces certificate) outside m status text (inl (big, is, said)) = inl (
+  big,
+  record {
+    held = λ e. absurd cc;
+    read = λ e. absurd cc;
+    short = λ e. absurd cc;
+    written = λ e. absurd cc;
+    room = λ e. absurd cc;
+  },
+)
 later_due (pieces certificate) outside m status text (inr (small, reads)) = inr (
   small,
-  of_last (IsOpenFor (pieces certificate)) Second certificate (SplitsText m) outside status text
-  (λ bytes its. read_by is_splitting status (split_ends m bytes status text its) refl refl refl refl refl) reads,
+  of_last (pieces certificate) Second certificate (SplitsText m) outside status text
+      (λ bytes its. read_by is_splitting status (split_ends m bytes status text its) refl refl refl refl refl) reads,
 )
-later_due show_tableau outside m status text (inl (big, is, said)) = inl (big, record {
-  held = λ e. absurd cc;
-  read = λ e. absurd cc;
-  short = λ e. absurd cc;
-  written = λ e. absurd cc;
-  room = λ e. absurd cc;
-})
+later_due show_tableau outside m status text (inl (big, is, said)) = inl (
+  big,
+  record {
+    held = λ e. absurd cc;
+    read = λ e. absurd cc;
+    short = λ e. absurd cc;
+    written = λ e. absurd cc;
+    room = λ e. absurd cc;
+  },
+)
 later_due show_tableau outside m status text (inr (small, shows)) = inr (
   small,
   of_none (IsOpenFor show_tableau) outside status (read_by is_done status (passes is_done status Done shows.done refl) refl refl refl refl refl),
 )
-later_due question outside m status text answers = inr (λ big. big,
-    of_none (IsOpenFor question) outside status (read_by (ends question) status (answer_ends question outside m status text answers) refl refl refl refl refl))
+later_due question outside m status text answers = inr (
+  λ big. big,
+  of_none (IsOpenFor question) outside status (read_by (ends question) status (answer_ends question outside m status text answers) refl refl refl refl refl),
+)

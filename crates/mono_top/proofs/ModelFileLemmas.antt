@@ -34,14 +34,14 @@ pub of_none : (Opens : Files → List ℕ → Type 0) (outside : Outside) (statu
 of_none Opens outside status own = search rules
 
 -- a file was refused
-of_refused : (Opens : Files → List ℕ → Type 0) (place : Place) (name : List ℕ) (names : List (List ℕ)) (outside : Outside) (status : Status) (text : List ℕ) → RefusesFile place name outside status text → IsDueOfFiles Opens (name ∷ names) outside status
-of_refused Opens place name names outside status text refused = search (rules, length-append {A = ℕ})
+of_refused : (question : Question) (place : Place) (name : List ℕ) (names : List (List ℕ)) (outside : Outside) (status : Status) (text : List ℕ) → RefusesFile place name outside status text → IsDueOfFiles (IsOpenFor question) (name ∷ names) outside status
+of_refused question place name names outside status text refused = search (rules, length-append {A = ℕ})
 
 -- the last file of a command, read whole: the status is the command's own
-pub of_last : (Opens : Files → List ℕ → Type 0) (place : Place) (name : List ℕ) (Next : List ℕ → Status → List ℕ → Type 0) (outside : Outside) (status : Status) (text : List ℕ)
-    → ((bytes : List ℕ) → Next bytes status text → IsRead status) → ReadsThen place name Next outside status text → IsDueOfFiles Opens (name ∷ []) outside status
-of_last Opens place name Next outside status text step (inl refused) = of_refused Opens place name [] outside status text refused
-of_last Opens place name Next outside status text step (inr (bytes, held, short, next)) =
+pub of_last : (question : Question) (place : Place) (name : List ℕ) (Next : List ℕ → Status → List ℕ → Type 0) (outside : Outside) (status : Status) (text : List ℕ)
+    → ((bytes : List ℕ) → Next bytes status text → IsRead status) → ReadsThen place name Next outside status text → IsDueOfFiles (IsOpenFor question) (name ∷ []) outside status
+of_last question place name Next outside status text step (inl refused) = of_refused question place name [] outside status text refused
+of_last question place name Next outside status text step (inr (bytes, held, short, next)) =
     let own = step bytes next in
     record {
       has_text = (own.written, own.room);
@@ -118,7 +118,7 @@ module _ (question : Question) (name : List ℕ) (names : List (List ℕ)) (Next
 
   pub of_model_file : ((m : Entries) → Next m status text → IsDueBehind (IsOpenFor question) (IsTooBigFor question m) names outside status)
       → ReadsThen First name (OfModel Next) outside status text → IsDueOfFiles (IsOpenFor question) (name ∷ names) outside status
-  of_model_file step (inl refused) = of_refused (IsOpenFor question) First name names outside status text refused
+  of_model_file step (inl refused) = of_refused question First name names outside status text refused
   of_model_file step (inr (bytes, held, short, inl (line, word, fault, is, said))) =
       record {
         has_text = (λ e. cc, λ e. cc);

@@ -28,17 +28,16 @@ circuit_with graph curves walk its = record {
 pieces_with : (graph : Graph) (curves : List Listing) (rest : ℕ → ℤ) (ps : List FlowPiece)
     → ArePieces (bare graph) rest ps → ArePieces (network graph curves) rest ps
 pieces_with graph curves rest [] none = none
-pieces_with graph curves rest (p ∷ later) (piece, are) =
-    (
-      record {
-        there = piece.there;
-        circuit = circuit_with graph curves p.walk piece.circuit;
-        along = piece.along;
-        weighs = piece.weighs;
-        first = piece.first;
-      },
-      pieces_with graph curves (left_by rest p) later are,
-    )
+pieces_with graph curves rest (p ∷ later) (piece, are) = (
+  record {
+    there = piece.there;
+    circuit = circuit_with graph curves p.walk piece.circuit;
+    along = piece.along;
+    weighs = piece.weighs;
+    first = piece.first;
+  },
+  pieces_with graph curves (left_by rest p) later are,
+)
 
 pub pieces_of_net : (graph : Graph) (net : Network) (x : ℕ → ℤ) (ps : List FlowPiece) → network graph net.curves ≡ net
     → ArePieces (bare graph) x ps → ArePieces net x ps
