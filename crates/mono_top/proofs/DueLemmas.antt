@@ -11,18 +11,22 @@ use Rattle.model_text.specs.Model.{IsWellFormed, arc_names, place_of}
 use Rattle.model_text.proofs.SpelledForm.{spelled_is_formed}
 use Rattle.outside_io.specs.Seen.{Outside}
 use Rattle.mono_top.specs.Answer.{Answers, AnswersModel, behind}
-use Rattle.mono_top.specs.Causes.{Asks, AsksFaulty, AsksInvalid, AsksToCheck, AsksTrial, AsksUnknownArc}
+use Rattle.mono_top.specs.Causes.{Asks, AsksFaulty, AsksInvalid, AsksNoFlow, AsksToCheck, AsksTooBig, AsksToSplit, AsksTrial, AsksUnknownArc}
 use Rattle.mono_top.specs.Checks.{ChecksText}
 use Rattle.mono_top.specs.Due.{IsDue, IsDueOfFiles}
 use Rattle.mono_top.specs.OfModel.{OfModel}
-use Rattle.mono_top.specs.Request.{Request, about_model, about_trial, Question, solve, check, show_curve, later_files, files_of}
+use Rattle.mono_top.specs.Request.{Request, about_model, about_trial, Question, solve, check, pieces, show_curve, show_tableau, later_files, files_of}
+use Rattle.mono_top.specs.Reading.{IsOpen, IsOpenFor}
 use Rattle.mono_top.specs.ShowsCurve.{ShowsAt}
+use Rattle.mono_top.specs.ShowsPieces.{SplitsText}
+use Rattle.mono_top.specs.TooBig.{IsTooBigFor}
 use Rattle.mono_top.specs.declared.lines.Place.TheVariants.{First, Second}
 use Rattle.mono_top.specs.declared.status.Status.{Status}
-use Rattle.mono_top.specs.declared.status.Status.TheVariants.{Done, Rejected, Usage, ModelRefused, Missing, ReadFault, TooLong, UnknownArc}
+use Rattle.mono_top.specs.declared.status.Status.TheVariants.{Done, Rejected, Usage, ModelRefused, Missing, ReadFault, TooLong, TooBig, UnknownArc, NoFlow}
 use Rattle.mono_top.proofs.CheckLemmas.{IsJudged, judged, invalid_is_rejected, rejected_is_invalid}
+use Rattle.mono_top.proofs.SplitLemmas.{IsSplitAs, flows, flowless, invalid, split_as, invalid_is_rejected as invalid_is_split_rejected, rejected_is_invalid as rejected_is_split_invalid, flowless_is_no_flow, no_flow_is_flowless}
 use Rattle.mono_top.proofs.Ends.{ends, not_by, answer_ends, later_due}
-use Rattle.mono_top.proofs.ModelFileLemmas.{of_model_file, of_text, reached, next_of_model, fault_is_refused}
+use Rattle.mono_top.proofs.ModelFileLemmas.{IsDueBehind, of_model_file, of_text, reached, next_of_model, fault_is_refused}
 
 -- ---- between a question and its answer
 
@@ -95,8 +99,8 @@ trial_is_done request outside status text answers (number, is) =
     reported.done
 
 -- what is due of the later files, as it is said behind the first, is due of them
-of_later : (model : List ℕ) (names : List (List ℕ)) (outside : Outside) (status : Status) → IsDueOfFiles names (behind model outside) status → IsDueOfFiles names outside status
-of_later model names outside status due = record {
+of_later : (Opens : Files → List ℕ → Type 0) (model : List ℕ) (names : List (List ℕ)) (outside : Outside) (status : Status) → IsDueOfFiles Opens names (behind model outside) status → IsDueOfFiles Opens names outside status
+of_later Opens model names outside status due = record {
   has_text = due.has_text;
   missed = due.missed;
   not_held = due.not_held;
@@ -106,11 +110,17 @@ of_later model names outside status due = record {
   readable = due.readable;
 }
 
-files_due : (request : Option Request) (outside : Outside) (status : Status) (text : List ℕ) → Answers request outside status text → IsDueOfFiles (files_of request) outside status
+of_later_or_big : (Opens : Files → List ℕ → Type 0) (TooBigModel : Type 0) (model : List ℕ) (names : List (List ℕ)) (outside : Outside) (status : Status)
+    → IsDueBehind Opens TooBigModel names (behind model outside) status → IsDueBehind Opens TooBigModel names outside status
+of_later_or_big Opens TooBigModel model names outside status (inl big) = inl big
+of_later_or_big Opens TooBigModel model names outside status (inr (small, due)) = inr (small, of_later Opens model names outside status due)
+
+files_due : (request : Option Request) (outside : Outside) (status : Status) (text : List ℕ) → Answers request outside status text → IsDueOfFiles (IsOpen request) (files_of request) outside status
 files_due None outside status text refused = search rules
 files_due (Some (about_trial number)) outside status text reported = let done = reported.done in search rules
 files_due (Some (about_model model question)) outside status text reads =
-    of_model_file model (later_files question) (AnswersModel question (behind model outside)) outside status text (λ m next. of_later model (later_files question) outside status (later_due question (behind model outside) m status text next)) reads
+    of_model_file question model (later_files question) (AnswersModel question (behind model outside)) outside status text
+    (λ m next. of_later_or_big (IsOpenFor question) (IsTooBigFor question m) model (later_files question) outside status (later_due question (behind model outside) m status text next)) reads
 
 faulty_only : (request : Option Request) (outside : Outside) (status : Status) (text : List ℕ) → Answers request outside status text
     → (line : ℕ) (word : FaultWord) → status ≡ ModelRefused line word → ForSome outside.holds (λ files. AsksFaulty files line word request)
@@ -143,7 +153,13 @@ invalid_only files (check certificate) m request outside status text told asks c
     let second = of_text Second certificate (ChecksText m) outside status text checks (λ e. cc) (λ e. cc) (λ e. cc) in
     let file = asks.2 in
     let told_so = judged m second.bytes status text (spelled_is_formed file.0 m file.3) second.next in
-    (m, second.bytes, (certificate, asks, (second.bytes, second.held files told, second.short, refl)), rejected_is_invalid m second.bytes status told_so is)
+    (m, second.bytes, inl (certificate, asks, (second.bytes, second.held files told, second.short, refl)), rejected_is_invalid m second.bytes status told_so is)
+invalid_only files (pieces certificate) m request outside status text told asks (inl (big, refused, said)) ended is = absurd cc
+invalid_only files (pieces certificate) m request outside status text told asks (inr (small, reads)) ended is =
+    let second = of_text Second certificate (SplitsText m) outside status text reads (λ e. cc) (λ e. cc) (λ e. cc) in
+    let file = asks.2 in
+    let told_so = split_as m second.bytes status text (spelled_is_formed file.0 m file.3) second.next in
+    (m, second.bytes, inr (certificate, asks, small, (second.bytes, second.held files told, second.short, refl)), rejected_is_split_invalid m second.bytes status told_so is)
 invalid_only files question m request outside status text told asks answers ended is = absurd (false≢true ended)
 
 -- the text of a request to check is judged, where no fault kept a file from being read
@@ -154,6 +170,64 @@ checked request outside status text answers read files told m bytes (certificate
     let first = answer_of request outside status text answers read files told (check certificate) m asks in
     let checks = reached Second certificate (ChecksText m) (behind asks.0 outside) status text first.1 read files told second.0 second.1 second.2 in
     (first.0, subst (λ (b : List ℕ). IsJudged m b status) second.3 (judged m second.0 status text first.0 checks))
+
+-- the text of a request to split is what its status says, where no fault kept a file from being read
+split : (request : Option Request) (outside : Outside) (status : Status) (text : List ℕ) → Answers request outside status text
+    → status ≢ ReadFault → ForSome outside.holds (λ files. (m : Entries) (bytes : List ℕ) → AsksToSplit files m bytes request → IsSplitAs m bytes status)
+split request outside status text answers read files told m bytes (certificate, asks, small, second) =
+    let first = answer_of request outside status text answers read files told (pieces certificate) m asks in
+    elim first.1 [
+      | inl (big, refused, said) ↦ absurd (small big)
+      | inr (fits, reads) ↦
+          let next = reached Second certificate (SplitsText m) (behind asks.0 outside) status text reads read files told second.0 second.1 second.2 in
+          subst (λ (b : List ℕ). IsSplitAs m b status) second.3 (split_as m second.0 status text first.0 next)
+    ]
+
+-- an invalid text is rejected by both
+invalid_always : (request : Option Request) (outside : Outside) (status : Status) (text : List ℕ) → Answers request outside status text
+    → status ≢ ReadFault → ForSome outside.holds (λ files. AsksInvalid files request → status ≡ Rejected)
+invalid_always request outside status text answers read files told (m, bytes, inl asks, refused) =
+    let told_so = checked request outside status text answers read files told m bytes asks in
+    invalid_is_rejected m bytes status told_so.1 refused
+invalid_always request outside status text answers read files told (m, bytes, inr asks, refused) =
+    invalid_is_split_rejected m bytes status (split request outside status text answers read files told m bytes asks) refused
+
+no_flow_only : (files : Files) (question : Question) (m : Entries) (request : Option Request) (outside : Outside) (status : Status) (text : List ℕ)
+    → outside.holds ≡ Some files → Asks files question m request → AnswersModel question outside m status text → ends question NoFlow ≡ true → status ≡ NoFlow
+    → AsksNoFlow files request
+no_flow_only files (pieces certificate) m request outside status text told asks (inl (big, refused, said)) ended is = absurd cc
+no_flow_only files (pieces certificate) m request outside status text told asks (inr (small, reads)) ended is =
+    let second = of_text Second certificate (SplitsText m) outside status text reads (λ e. cc) (λ e. cc) (λ e. cc) in
+    let file = asks.2 in
+    let told_so = split_as m second.bytes status text (spelled_is_formed file.0 m file.3) second.next in
+    (m, second.bytes, (certificate, asks, small, (second.bytes, second.held files told, second.short, refl)), no_flow_is_flowless m second.bytes status told_so is)
+no_flow_only files question m request outside status text told asks answers ended is = absurd (false≢true ended)
+
+-- no text that is split is too big
+split_is_small : (m : Entries) (bytes : List ℕ) (status : Status) → IsSplitAs m bytes status → status ≢ TooBig
+split_is_small m bytes status (flows is valid some) e = absurd cc
+split_is_small m bytes status (flowless is none) e = absurd cc
+split_is_small m bytes status (invalid is refused) e = absurd cc
+
+too_big_only : (files : Files) (question : Question) (m : Entries) (request : Option Request) (outside : Outside) (status : Status) (text : List ℕ)
+    → Asks files question m request → AnswersModel question outside m status text → ends question TooBig ≡ true → status ≡ TooBig
+    → AsksTooBig files request
+too_big_only files (pieces certificate) m request outside status text asks (inl (big, refused, said)) ended is = (pieces certificate, m, asks, big)
+too_big_only files (pieces certificate) m request outside status text asks (inr (small, reads)) ended is =
+    let second = of_text Second certificate (SplitsText m) outside status text reads (λ e. cc) (λ e. cc) (λ e. cc) in
+    let file = asks.2 in
+    absurd (split_is_small m second.bytes status (split_as m second.bytes status text (spelled_is_formed file.0 m file.3) second.next) is)
+too_big_only files show_tableau m request outside status text asks (inl (big, refused, said)) ended is = (show_tableau, m, asks, big)
+too_big_only files show_tableau m request outside status text asks (inr (small, shows)) ended is = let done = shows.done in absurd cc
+too_big_only files question m request outside status text asks answers ended is = absurd (false≢true ended)
+
+big_is_refused : (question : Question) (m : Entries) (outside : Outside) (status : Status) (text : List ℕ)
+    → AnswersModel question outside m status text → IsTooBigFor question m → status ≡ TooBig
+big_is_refused (pieces certificate) m outside status text (inl (big, is, said)) too_big = is
+big_is_refused (pieces certificate) m outside status text (inr (small, reads)) too_big = absurd (small too_big)
+big_is_refused show_tableau m outside status text (inl (big, is, said)) too_big = is
+big_is_refused show_tableau m outside status text (inr (small, shows)) too_big = absurd (small too_big)
+big_is_refused question m outside status text answers too_big = absurd too_big
 
 unknown_shows : (m : Entries) (at : Option ℕ) (status : Status) (text : List ℕ) → ShowsAt m at status text → at ≡ None → status ≡ UnknownArc
 unknown_shows m (Some j) status text shows none = absurd cc
@@ -191,8 +265,24 @@ due request outside status text answers =
             let answer = its.answer files told in
             invalid_only files its.question answer.0 request (behind answer.1.0 outside) status text told answer.1 answer.2 (sym (ap (ends its.question) is) ∙ its.ended) is;
         always = λ files told asks silent.
-            let told_so = checked request outside status text answers (quiet silent) files told asks.0 asks.1 asks.2 in
-            inl (invalid_is_rejected asks.0 asks.1 status told_so.1 asks.3);
+            inl (invalid_always request outside status text answers (quiet silent) files told asks);
+      };
+      too_big = record {
+        only = λ is files told.
+            let its = answered request outside status text answers (search rules) in
+            let answer = its.answer files told in
+            too_big_only files its.question answer.0 request (behind answer.1.0 outside) status text answer.1 answer.2 (sym (ap (ends its.question) is) ∙ its.ended) is;
+        always = λ files told asks silent.
+            let its = answer_of request outside status text answers (quiet silent) files told asks.0 asks.1 asks.2 in
+            inl (big_is_refused asks.0 asks.1 (behind asks.2.0 outside) status text its.1 asks.3);
+      };
+      no_flow = record {
+        only = λ is files told.
+            let its = answered request outside status text answers (search rules) in
+            let answer = its.answer files told in
+            no_flow_only files its.question answer.0 request (behind answer.1.0 outside) status text told answer.1 answer.2 (sym (ap (ends its.question) is) ∙ its.ended) is;
+        always = λ files told asks silent.
+            inl (flowless_is_no_flow asks.0 asks.1 status (split request outside status text answers (quiet silent) files told asks.0 asks.1 asks.2) asks.3);
       };
       unknown_arc = record {
         only = λ is files told.

@@ -1,6 +1,6 @@
 -- The statuses that the answer to a question may have. A further question is one more line in `ends`, and one in
 -- `answer_ends`; that no other status is due follows for all of them at once.
-use Rattle.std.proofs.Common.{◌≡◌, ◌≢◌, ℕ, Bool, true, false, List, sym, ap, ◌∙◌, refl, Option, Some, None, inl, inr}
+use Rattle.std.proofs.Common.{◌≡◌, ◌≢◌, ℕ, ℤ, Bool, true, false, List, sym, ap, ◌∙◌, refl, Option, Some, None, inl, inr}
 use Rattle.std.proofs.lemmas.Bool.{false≢true}
 use Rattle.theory.specs.Grounded.{Entries}
 use Rattle.theory.specs.Certificate.{Certificate}
@@ -13,17 +13,20 @@ use Rattle.cert_text.specs.declared.feasible.TensionPart.TheVariants.{Yes as Yes
 use Rattle.cert_check.specs.declared.judged.Judged.{Judged}
 use Rattle.cert_check.specs.declared.judged.Judged.TheVariants.{Accepted}
 use Rattle.outside_io.specs.Seen.{Outside}
-use Rattle.mono_top.specs.Answer.{AnswersModel, ReadsThen}
+use Rattle.mono_top.specs.Answer.{AnswersModel, ReadsThen, UnlessTooBig}
 use Rattle.mono_top.specs.Checks.{ChecksText, status_by}
-use Rattle.mono_top.specs.Due.{IsDueOfFiles}
 use Rattle.mono_top.specs.FindsFeasible.{status_of_parts}
-use Rattle.mono_top.specs.Request.{Question, solve, check, feasible, show_curve, later_files}
+use Rattle.mono_top.specs.Request.{Question, solve, check, pieces, feasible, show_curve, show_tableau, later_files}
+use Rattle.mono_top.specs.Reading.{IsOpenFor}
 use Rattle.mono_top.specs.ShowsCurve.{ShowsAt}
+use Rattle.mono_top.specs.ShowsPieces.{SplitsText, ShowsBy, ShowsFlow, flow_of}
+use Rattle.mono_top.specs.ShowsTableau.{ShowsTableau}
+use Rattle.mono_top.specs.TooBig.{IsTooBigFor}
 use Rattle.mono_top.specs.Solves.{status_of}
 use Rattle.mono_top.specs.declared.lines.Place.TheVariants.{Second}
 use Rattle.mono_top.specs.declared.status.Status.{Status}
-use Rattle.mono_top.specs.declared.status.Status.TheVariants.{Done, Cut, Circuit, Rejected, Missing, ReadFault, WriteFault, NoMemory, TooLong, UnknownArc}
-use Rattle.mono_top.proofs.ModelFileLemmas.{IsRead, of_none, of_last}
+use Rattle.mono_top.specs.declared.status.Status.TheVariants.{Done, Cut, Circuit, Rejected, Missing, ReadFault, WriteFault, NoMemory, TooLong, TooBig, UnknownArc, NoFlow}
+use Rattle.mono_top.proofs.ModelFileLemmas.{IsRead, IsDueBehind, of_none, of_last}
 
 -- ---- statuses as tests
 
@@ -38,10 +41,25 @@ is_judgement Done = true
 is_judgement Rejected = true
 is_judgement status = false
 
+abbrev pub is_splitting : Status → Bool
+is_splitting Done = true
+is_splitting Rejected = true
+is_splitting NoFlow = true
+is_splitting status = false
+
 abbrev pub is_showing : Status → Bool
 is_showing Done = true
 is_showing UnknownArc = true
 is_showing status = false
+
+abbrev pub is_done : Status → Bool
+is_done Done = true
+is_done status = false
+
+-- or the model was too big
+abbrev pub or_too_big : (Status → Bool) → Status → Bool
+or_too_big own TooBig = true
+or_too_big own status = own status
 
 -- or a later file was refused
 abbrev pub or_refused : (Status → Bool) → Status → Bool
@@ -53,8 +71,10 @@ or_refused own status = own status
 abbrev pub ends : Question → Status → Bool
 ends solve = is_kind
 ends (check certificate) = or_refused is_judgement
+ends (pieces certificate) = or_too_big (or_refused is_splitting)
 ends feasible = is_kind
 ends (show_curve arc) = is_showing
+ends show_tableau = or_too_big is_done
 
 -- a status that passes a test is none that fails it
 pub not_by : (test : Status → Bool) (status other : Status) → test status ≡ true → test other ≡ false → status ≢ other
@@ -93,6 +113,18 @@ text_ends : (m : Entries) (bytes : List ℕ) (status : Status) (text : List ℕ)
 text_ends m bytes status text (inl (line, bad, is, said)) = passes is_judgement status Rejected is refl
 text_ends m bytes status text (inr (c, spelled, (verdict, judges, is, said))) = passes is_judgement status (status_by verdict) is (verdict_ends verdict)
 
+flow_ends : (m : Entries) (flow : Option (List ℤ)) (status : Status) (text : List ℕ) → ShowsFlow m flow status text → is_splitting status ≡ true
+flow_ends m (Some x) status text shows = passes is_splitting status Done shows.0 refl
+flow_ends m None status text shows = passes is_splitting status NoFlow shows.0 refl
+
+shown_by_ends : (m : Entries) (c : Certificate) (verdict : Judged) (status : Status) (text : List ℕ) → ShowsBy m c verdict status text → is_splitting status ≡ true
+shown_by_ends m c Accepted status text shows = flow_ends m (flow_of c) status text shows
+shown_by_ends m c verdict status text shows = passes is_splitting status Rejected shows.0 refl
+
+split_ends : (m : Entries) (bytes : List ℕ) (status : Status) (text : List ℕ) → SplitsText m bytes status text → is_splitting status ≡ true
+split_ends m bytes status text (inl (line, bad, is, said)) = passes is_splitting status Rejected is refl
+split_ends m bytes status text (inr (c, spelled, (verdict, judges, shows))) = shown_by_ends m c verdict status text shows
+
 shows_end : (m : Entries) (at : Option ℕ) (status : Status) (text : List ℕ) → ShowsAt m at status text → is_showing status ≡ true
 shows_end m (Some j) status text shows = passes is_showing status Done shows.0 refl
 shows_end m None status text shows = passes is_showing status UnknownArc shows.0 refl
@@ -112,18 +144,66 @@ later_ends own name Next outside status text step (inl (started, inr (inl (is, l
 later_ends own name Next outside status text step (inl (started, inr (inr (is, line, long)))) = passes (or_refused own) status TooLong is refl
 later_ends own name Next outside status text step (inr (bytes, held, short, next)) = still_own own status (step bytes next)
 
+-- the test with the model that is too big holds where the test without it does
+still_small : (own : Status → Bool) (status : Status) → own status ≡ true → or_too_big own status ≡ true
+still_small own TooBig passed = refl
+still_small own status passed = passed
+
+unless_too_big_ends : (own : Status → Bool) (TooBigModel : Type 0) (Next : Status → List ℕ → Type 0) (status : Status) (text : List ℕ)
+    → (Next status text → own status ≡ true) → UnlessTooBig TooBigModel Next status text → or_too_big own status ≡ true
+unless_too_big_ends own TooBigModel Next status text step (inl (big, is, said)) = passes (or_too_big own) status TooBig is refl
+unless_too_big_ends own TooBigModel Next status text step (inr (small, next)) = still_small own status (step next)
+
 pub answer_ends : (question : Question) (outside : Outside) (m : Entries) (status : Status) (text : List ℕ) → AnswersModel question outside m status text → ends question status ≡ true
 answer_ends solve outside m status text certified = passes is_kind status (status_of certified.certificate) certified.kind (certificate_ends certified.certificate)
 answer_ends (check certificate) outside m status text checks =
     later_ends is_judgement certificate (ChecksText m) outside status text (λ bytes its. text_ends m bytes status text its) checks
+answer_ends (pieces certificate) outside m status text answers =
+    unless_too_big_ends (or_refused is_splitting) (IsTooBigFor (pieces certificate) m) (ReadsThen Second certificate (SplitsText m) outside) status text
+    (later_ends is_splitting certificate (SplitsText m) outside status text (λ bytes its. split_ends m bytes status text its)) answers
 answer_ends feasible outside m status text finds = passes is_kind status (status_of_parts finds.flow finds.tension) finds.kind (parts_end finds.flow finds.tension)
 answer_ends (show_curve arc) outside m status text shows = shows_end m (place_of (arc_names m) arc) status text shows
+answer_ends show_tableau outside m status text answers =
+    unless_too_big_ends is_done (IsTooBigFor show_tableau m) (ShowsTableau m) status text (λ shows. passes is_done status Done shows.done refl) answers
 
 -- what the answer says of the files that are read after the model
 pub later_due : (question : Question) (outside : Outside) (m : Entries) (status : Status) (text : List ℕ) → AnswersModel question outside m status text
-    → IsDueOfFiles (later_files question) outside status
-later_due (check certificate) outside m status text checks =
-    of_last Second certificate (ChecksText m) outside status text
-    (λ bytes its. read_by is_judgement status (text_ends m bytes status text its) refl refl refl refl refl) checks
-later_due question outside m status text answers =
-    of_none outside status (read_by (ends question) status (answer_ends question outside m status text answers) refl refl refl refl refl)
+    → IsDueBehind (IsOpenFor question) (IsTooBigFor question m) (later_files question) outside status
+later_due (check certificate) outside m status text checks = inr (
+  λ big. big,
+  of_last (check certificate) Second certificate (ChecksText m) outside status text
+      (λ bytes its. read_by is_judgement status (text_ends m bytes status text its) refl refl refl refl refl) checks,
+)
+later_due (pieces certificate) outside m status text (inl (big, is, said)) = inl (
+  big,
+  record {
+    held = λ e. absurd cc;
+    read = λ e. absurd cc;
+    short = λ e. absurd cc;
+    written = λ e. absurd cc;
+    room = λ e. absurd cc;
+  },
+)
+later_due (pieces certificate) outside m status text (inr (small, reads)) = inr (
+  small,
+  of_last (pieces certificate) Second certificate (SplitsText m) outside status text
+      (λ bytes its. read_by is_splitting status (split_ends m bytes status text its) refl refl refl refl refl) reads,
+)
+later_due show_tableau outside m status text (inl (big, is, said)) = inl (
+  big,
+  record {
+    held = λ e. absurd cc;
+    read = λ e. absurd cc;
+    short = λ e. absurd cc;
+    written = λ e. absurd cc;
+    room = λ e. absurd cc;
+  },
+)
+later_due show_tableau outside m status text (inr (small, shows)) = inr (
+  small,
+  of_none (IsOpenFor show_tableau) outside status (read_by is_done status (passes is_done status Done shows.done refl) refl refl refl refl refl),
+)
+later_due question outside m status text answers = inr (
+  λ big. big,
+  of_none (IsOpenFor question) outside status (read_by (ends question) status (answer_ends question outside m status text answers) refl refl refl refl refl),
+)

@@ -9,7 +9,8 @@ use Rattle.mono_top.specs.Answer.{ReadsThen, AnswersModel, behind}
 use Rattle.mono_top.specs.Checks.{ChecksText}
 use Rattle.mono_top.specs.Fetch.{FetchesModel}
 use Rattle.mono_top.specs.OfModel.{OfModel}
-use Rattle.mono_top.specs.Request.{Question, check}
+use Rattle.mono_top.specs.Request.{Question, check, pieces}
+use Rattle.mono_top.specs.ShowsPieces.{SplitsText}
 use Rattle.mono_top.specs.declared.fetch.FetchedModel.TheVariants.{Model}
 use Rattle.mono_top.specs.declared.lines.Place.{Place}
 use Rattle.mono_top.specs.declared.lines.Place.TheVariants.{First, Second}
@@ -40,4 +41,7 @@ module _ (old mid new : Seen) (first : List ℕ) (moves : Moves old mid) (start 
   pub answers_whole_call : (question : Question) (m : Entries) (status : Status) (text : List ℕ)
       → AnswersModel question (since mid new) m status text → AnswersModel question (behind first (since old new)) m status text
   answers_whole_call (check certificate) m status text checks = of_whole_call Second certificate (ChecksText m) status text checks
+  answers_whole_call (pieces certificate) m status text (inl refused) = inl refused
+  answers_whole_call (pieces certificate) m status text (inr (small, reads)) =
+      inr (small, of_whole_call Second certificate (SplitsText m) status text reads)
   answers_whole_call question m status text answers = answers

@@ -1,3 +1,5 @@
+pub mod PiecesLemmas
+pub mod SplitLemmas
 pub mod StartLemmas
 pub mod FetchLemmas
 pub mod ModelFileLemmas
@@ -6,3 +8,5 @@ pub mod Ends
 pub mod DueLemmas
 pub mod HeadlineLemmas
 pub mod NumberLemmas
+pub mod AscendingLemmas
+pub mod TableauLemmas

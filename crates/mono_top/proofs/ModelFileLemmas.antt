@@ -1,10 +1,10 @@
 -- From an answer to what its status says of the files. One file of a request is one step. Where the file was refused, the
 -- refusal is the cause, and no file after it was reached. Where it was read whole, and its text spells a model, what is
 -- said of the files after it is said of it and them.
-use Rattle.std.proofs.Common.{◌≡◌, ◌≢◌, ℕ, ◌≤◌, List, [], ◌∷◌, length, subst, Some, inl, inr, rules, arith, length-append}
+use Rattle.std.proofs.Common.{◌≡◌, ◌≢◌, ◌⊎◌, ℕ, ◌≤◌, List, [], ◌∷◌, length, subst, sym, Some, inl, inr, rules, arith, length-append}
 use Rattle.std.specs.Option.{ForSome}
 use Rattle.theory.specs.Grounded.{Entries}
-use Rattle.outside_io.specs.Files.{file_of}
+use Rattle.outside_io.specs.Files.{Files, file_of}
 use Rattle.model_text.specs.declared.fault.FaultWord.{FaultWord}
 use Rattle.model_text.specs.ModelText.{Spells, IsFirstFault}
 use Rattle.model_text.proofs.TextLaws.{one_model, spelled_or_bad, one_fault}
@@ -13,6 +13,9 @@ use Rattle.mono_top.specs.Answer.{ReadsThen, RefusesFile}
 use Rattle.mono_top.specs.Due.{IsDueOfFiles}
 use Rattle.theory.specs.Limits.{file_most}
 use Rattle.mono_top.specs.OfModel.{OfModel}
+use Rattle.mono_top.specs.Reading.{IsOpenFor}
+use Rattle.mono_top.specs.Request.{Question}
+use Rattle.mono_top.specs.TooBig.{IsTooBigFor}
 use Rattle.mono_top.specs.declared.lines.Place.{Place}
 use Rattle.mono_top.specs.declared.lines.Place.TheVariants.{First}
 use Rattle.mono_top.specs.declared.status.Status.{Status}
@@ -27,18 +30,18 @@ pub record IsRead (status : Status) : Type 0 where
   pub room : status ≢ NoMemory
 
 -- it says nothing of files
-pub of_none : (outside : Outside) (status : Status) → IsRead status → IsDueOfFiles [] outside status
-of_none outside status own = search rules
+pub of_none : (Opens : Files → List ℕ → Type 0) (outside : Outside) (status : Status) → IsRead status → IsDueOfFiles Opens [] outside status
+of_none Opens outside status own = search rules
 
 -- a file was refused
-of_refused : (place : Place) (name : List ℕ) (names : List (List ℕ)) (outside : Outside) (status : Status) (text : List ℕ) → RefusesFile place name outside status text → IsDueOfFiles (name ∷ names) outside status
-of_refused place name names outside status text refused = search (rules, length-append {A = ℕ})
+of_refused : (question : Question) (place : Place) (name : List ℕ) (names : List (List ℕ)) (outside : Outside) (status : Status) (text : List ℕ) → RefusesFile place name outside status text → IsDueOfFiles (IsOpenFor question) (name ∷ names) outside status
+of_refused question place name names outside status text refused = search (rules, length-append {A = ℕ})
 
 -- the last file of a command, read whole: the status is the command's own
-pub of_last : (place : Place) (name : List ℕ) (Next : List ℕ → Status → List ℕ → Type 0) (outside : Outside) (status : Status) (text : List ℕ)
-    → ((bytes : List ℕ) → Next bytes status text → IsRead status) → ReadsThen place name Next outside status text → IsDueOfFiles (name ∷ []) outside status
-of_last place name Next outside status text step (inl refused) = of_refused place name [] outside status text refused
-of_last place name Next outside status text step (inr (bytes, held, short, next)) =
+pub of_last : (question : Question) (place : Place) (name : List ℕ) (Next : List ℕ → Status → List ℕ → Type 0) (outside : Outside) (status : Status) (text : List ℕ)
+    → ((bytes : List ℕ) → Next bytes status text → IsRead status) → ReadsThen place name Next outside status text → IsDueOfFiles (IsOpenFor question) (name ∷ []) outside status
+of_last question place name Next outside status text step (inl refused) = of_refused question place name [] outside status text refused
+of_last question place name Next outside status text step (inr (bytes, held, short, next)) =
     let own = step bytes next in
     record {
       has_text = (own.written, own.room);
@@ -71,41 +74,68 @@ next_of_model Next bytes status text m (inl (line, word, fault, is, said)) spell
 next_of_model Next bytes status text m (inr (n, its, next)) spells =
     subst (λ (k : Entries). Next k status text) (one_model bytes n m its spells) next
 
--- a model file, and then the files that the command reads after it
-pub of_model_file : (name : List ℕ) (names : List (List ℕ)) (Next : Entries → Status → List ℕ → Type 0) (outside : Outside) (status : Status) (text : List ℕ)
-    → ((m : Entries) → Next m status text → IsDueOfFiles names outside status)
-    → ReadsThen First name (OfModel Next) outside status text → IsDueOfFiles (name ∷ names) outside status
-of_model_file name names Next outside status text step (inl refused) = of_refused First name names outside status text refused
-of_model_file name names Next outside status text step (inr (bytes, held, short, inl (line, word, fault, is, said))) =
-    record {
-      has_text = (λ e. cc, λ e. cc);
-      missed = λ e. absurd cc;
-      not_held = λ e. absurd cc;
-      faulted = λ e. absurd cc;
-      too_long = λ e. absurd cc;
-      too_long_always = λ files told reaches quiet. elim reaches [
-        | inl long ↦ grind (arith, long, held files told)
-        | inr further ↦
-            let spelled = further.0 in
-            let same : bytes ≡ spelled.0 = let first = held files told in let also = spelled.1 in cc in
-            absurd (spelled_or_bad spelled.0 spelled.3.0 line word spelled.3.1 (subst (λ (b : List ℕ). IsFirstFault b line word) same fault))
-      ];
-      readable = λ files told readable. (λ e. cc, λ e. cc);
-    }
-of_model_file name names Next outside status text step (inr (bytes, held, short, inr (m, spells, next))) =
-    let after = step m next in
-    record {
-      has_text = after.has_text;
-      missed = after.missed;
-      not_held = λ is files told. inr ((bytes, held files told, short, (m, spells)), after.not_held is files told);
-      faulted = after.faulted;
-      too_long = λ is files told. inr ((bytes, held files told, short, (m, spells)), after.too_long is files told);
-      too_long_always = λ files told reaches quiet. elim reaches [
-        | inl long ↦ grind (arith, long, held files told)
-        | inr further ↦ after.too_long_always files told further.1 quiet
-      ];
-      readable = λ files told readable. after.readable files told readable.1;
-    }
+-- what is due of the files behind a model: nothing where it is too big, and no status is then that of a file
+abbrev pub IsDueBehind : (Files → List ℕ → Type 0) → Type 0 → List (List ℕ) → Outside → Status → Type 0
+IsDueBehind Opens TooBigModel names outside status =
+    TooBigModel × IsRead status ⊎ (¬ TooBigModel) × IsDueOfFiles Opens names outside status
+
+-- a model file, and then the files that the question reads after it
+module _ (question : Question) (name : List ℕ) (names : List (List ℕ)) (Next : Entries → Status → List ℕ → Type 0) (outside : Outside) (status : Status) (text : List ℕ) where
+  -- the text is that of this model
+  of_model : (bytes : List ℕ) → ForSome outside.holds (λ files. file_of files name ≡ Some bytes) → length bytes ≤ file_most
+      → (m : Entries) → Spells bytes m → IsDueBehind (IsOpenFor question) (IsTooBigFor question m) names outside status
+      → IsDueOfFiles (IsOpenFor question) (name ∷ names) outside status
+  of_model bytes held short m spells (inl (big, own)) =
+      record {
+        has_text = (own.written, own.room);
+        missed = λ is. absurd (own.held is);
+        not_held = λ is. absurd (own.held is);
+        faulted = λ is. absurd (own.read is);
+        too_long = λ is. absurd (own.short is);
+        too_long_always = λ files told reaches quiet. elim reaches [
+          | inl long ↦ grind (arith, long, held files told)
+          | inr further ↦
+              let file = further.0 in
+              let same : file.0 ≡ bytes = let first = held files told in let also = file.1 in cc in
+              let model : file.3.0 ≡ m = one_model bytes file.3.0 m (subst (λ (b : List ℕ). Spells b file.3.0) same file.3.1) spells in
+              absurd (file.3.2 (subst (λ (n : Entries). IsTooBigFor question n) (sym model) big))
+        ];
+        readable = λ files told readable. (own.held, own.short);
+      }
+  of_model bytes held short m spells (inr (small, after)) =
+      record {
+        has_text = after.has_text;
+        missed = after.missed;
+        not_held = λ is files told. inr ((bytes, held files told, short, (m, spells, small)), after.not_held is files told);
+        faulted = after.faulted;
+        too_long = λ is files told. inr ((bytes, held files told, short, (m, spells, small)), after.too_long is files told);
+        too_long_always = λ files told reaches quiet. elim reaches [
+          | inl long ↦ grind (arith, long, held files told)
+          | inr further ↦ after.too_long_always files told further.1 quiet
+        ];
+        readable = λ files told readable. after.readable files told readable.1;
+      }
+
+  pub of_model_file : ((m : Entries) → Next m status text → IsDueBehind (IsOpenFor question) (IsTooBigFor question m) names outside status)
+      → ReadsThen First name (OfModel Next) outside status text → IsDueOfFiles (IsOpenFor question) (name ∷ names) outside status
+  of_model_file step (inl refused) = of_refused question First name names outside status text refused
+  of_model_file step (inr (bytes, held, short, inl (line, word, fault, is, said))) =
+      record {
+        has_text = (λ e. cc, λ e. cc);
+        missed = λ e. absurd cc;
+        not_held = λ e. absurd cc;
+        faulted = λ e. absurd cc;
+        too_long = λ e. absurd cc;
+        too_long_always = λ files told reaches quiet. elim reaches [
+          | inl long ↦ grind (arith, long, held files told)
+          | inr further ↦
+              let spelled = further.0 in
+              let same : bytes ≡ spelled.0 = let first = held files told in let also = spelled.1 in cc in
+              absurd (spelled_or_bad spelled.0 spelled.3.0 line word spelled.3.1 (subst (λ (b : List ℕ). IsFirstFault b line word) same fault))
+        ];
+        readable = λ files told readable. (λ e. cc, λ e. cc);
+      }
+  of_model_file step (inr (bytes, held, short, inr (m, spells, next))) = of_model bytes held short m spells (step m next)
 
 -- the file was read whole, and this is the answer to its text
 pub record IsOfText (name : List ℕ) (Next : List ℕ → Status → List ℕ → Type 0) (outside : Outside) (status : Status) (text : List ℕ) : Type 0 where

@@ -1,30 +1,43 @@
 -- The files that a call starts: its first, and behind it those that the question reads.
-use Rattle.std.proofs.Common.{◌≡◌, ℕ, List, [], ◌∷◌, Option, Some, None, Ok, inl, inr, ap, sym, ◌∙◌, subst, arith, length-append}
+use Rattle.std.proofs.Common.{◌≡◌, ◌⊎◌, ℕ, List, [], ◌∷◌, Option, Some, None, Ok, inl, inr, ap, sym, ◌∙◌, subst, arith, length-append}
 use Rattle.std.specs.Option.{ForSome}
 use Rattle.outside_io.specs.Seen.{Seen, Outside, since, logged}
 use Rattle.outside_io.proofs.Logs.{logged-logged}
 use Rattle.model_text.specs.Model.{Formed}
 use Rattle.model_text.specs.ModelText.{Spells}
+use Rattle.model_text.proofs.TextLaws.{one_model}
+use Rattle.theory.specs.Grounded.{Entries}
 use Rattle.mono_top.specs.Answer.{ReadsThen}
 use Rattle.mono_top.specs.Fetch.{FetchesModel, text_of}
 use Rattle.mono_top.specs.OfModel.{OfModel}
-use Rattle.mono_top.specs.Reading.{IsModelFile}
-use Rattle.mono_top.specs.Request.{Request, about_model, about_trial, Question, check, later_files}
+use Rattle.mono_top.specs.Reading.{IsFileWith, IsModelFile}
+use Rattle.mono_top.specs.Request.{Request, about_model, about_trial, Question, check, pieces, show_tableau, later_files}
+use Rattle.mono_top.specs.TooBig.{IsTooBigFor}
 use Rattle.mono_top.specs.Starts.{StartsFiles, StartsLater}
 use Rattle.mono_top.specs.declared.fetch.FetchedModel.TheVariants.{Model, Refused}
 use Rattle.mono_top.specs.declared.lines.Place.TheVariants.{First}
 use Rattle.mono_top.specs.declared.reply.Reply.{Reply}
 use Rattle.mono_top.specs.declared.status.Status.{Status}
 use Rattle.mono_top.proofs.ModelFileLemmas.{next_of_model}
+use Rattle.mono_top.proofs.TableauLemmas.{too_big_or_not}
+
+-- the first file was started, and the others exactly where the model is not too big
+abbrev pub StartsInTurnOf : Question → Entries → List ℕ → Outside → Type 0
+StartsInTurnOf question m first outside =
+    IsTooBigFor question m × outside.started (first ∷ [])
+    ⊎ (¬ IsTooBigFor question m) × outside.started (first ∷ later_files question)
 
 -- the first file was started before the others
 module _ (old mid new : Seen) (first : List ℕ) (start : mid.log ≡ logged old.log (first ∷ [])) where
   pub started_further : (names : List (List ℕ)) → new.log ≡ logged mid.log names → (since old new).started (first ∷ names)
   started_further names further = further ∙ ap (λ log. logged log names) start ∙ logged-logged old.log (first ∷ []) names
 
-  pub started_later : (question : Question) → StartsLater question mid new → (since old new).started (first ∷ later_files question)
-  started_later (check certificate) later = started_further (certificate ∷ []) later
-  started_later question later = later ∙ start
+  pub started_later : (question : Question) (m : Entries) → StartsLater question m mid new → StartsInTurnOf question m first (since old new)
+  started_later (check certificate) m later = inr (λ big. big, started_further (certificate ∷ []) later)
+  started_later (pieces certificate) m (inl (big, none)) = inl (big, none ∙ start)
+  started_later (pieces certificate) m (inr (small, later)) = inr (small, started_further (certificate ∷ []) later)
+  started_later show_tableau m later = elim (too_big_or_not m) [ inl big ↦ inl (big, later ∙ start) | inr small ↦ inr (small, later ∙ start) ]
+  started_later question m later = inr (λ big. big, later ∙ start)
 
 -- a file that spells a model is refused by a fault alone
 pub refused_by_fault : (model : List ℕ) (outside : Outside) (status : Status) (text : List ℕ)
@@ -40,18 +53,32 @@ refused_by_fault model outside status text (inr (bytes, at_hand, short, next)) f
 
 -- ---- the files that a call starts
 
--- the later files were started too
-pub starts_all : (model : List ℕ) (question : Question) (outside : Outside) (starved : Type 0) (found : Formed)
-    → FetchesModel model outside (Ok (Model found)) → outside.started (model ∷ later_files question) → StartsFiles (Some (about_model model question)) outside starved
-starts_all model question outside starved found (bytes, held, short, spells) started = record {
-  in_turn = inr (started, λ files told. (bytes, held files told, short, (found.entries, spells)));
-  all = λ files told asks quiet. inl started;
-}
-
 abbrev first_of : Option Request → List ℕ → List ℕ
 first_of None other = other
 first_of (Some (about_model model question)) other = model
 first_of (Some (about_trial number)) other = other
+
+abbrev question_in : Option Request → Question → Question
+question_in (Some (about_model model question)) other = question
+question_in request other = other
+
+-- the later files were started too, or the model is too big
+pub starts_all : (model : List ℕ) (question : Question) (outside : Outside) (starved : Type 0) (found : Formed)
+    → FetchesModel model outside (Ok (Model found)) → StartsInTurnOf question found.entries model outside → StartsFiles (Some (about_model model question)) outside starved
+starts_all model question outside starved found (bytes, held, short, spells) (inr (small, started)) = record {
+  in_turn = inr (started, λ files told. (bytes, held files told, short, (found.entries, spells, small)));
+  all = λ files told asks quiet. inl started;
+}
+starts_all model question outside starved found (bytes, held, short, spells) (inl (big, started)) = record {
+  in_turn = inl started;
+  all = λ files told asks quiet.
+      let its : asks.0 ≡ question = ap (λ (r : Option Request). question_in r question) (sym asks.2.1) in
+      let name : asks.2.0 ≡ model = ap (λ (r : Option Request). first_of r model) (sym asks.2.1) in
+      let file = subst (λ (n : List ℕ). IsFileWith files n (λ text. Spells text asks.1)) name asks.2.2 in
+      let same : file.0 ≡ bytes = let first = held files told in let also = file.1 in cc in
+      let is_model : asks.1 ≡ found.entries = one_model bytes asks.1 found.entries (subst (λ (b : List ℕ). Spells b asks.1) same file.3) spells in
+      absurd (asks.3 (subst (λ (n : Entries). IsTooBigFor asks.0 n) (sym is_model) (subst (λ (q : Question). IsTooBigFor q found.entries) (sym its) big)));
+}
 
 -- the first file was refused, and no other was started
 pub starts_refused : (model : List ℕ) (question : Question) (outside : Outside) (starved : Type 0) (reply : Reply)

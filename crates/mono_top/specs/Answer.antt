@@ -7,12 +7,15 @@ use Rattle.theory.specs.Grounded.{Entries}
 use Rattle.theory.specs.Limits.{file_most}
 use Rattle.outside_io.specs.Files.{file_of}
 use Rattle.outside_io.specs.Seen.{Outside}
-use Rattle.mono_top.specs.Lines.{usage_line, missing_line, read_fault_line, too_long_line}
+use Rattle.mono_top.specs.Lines.{usage_line, too_big_line, missing_line, read_fault_line, too_long_line}
 use Rattle.mono_top.specs.Reading.{IsReadPastMost}
-use Rattle.mono_top.specs.Request.{Request, about_model, about_trial, Question, solve, check, feasible, show_curve}
+use Rattle.mono_top.specs.Request.{Request, about_model, about_trial, Question, solve, check, pieces, feasible, show_curve, show_tableau}
 use Rattle.mono_top.specs.OfModel.{OfModel}
 use Rattle.mono_top.specs.Checks.{ChecksText}
 use Rattle.mono_top.specs.ShowsCurve.{ShowsCurve}
+use Rattle.mono_top.specs.ShowsPieces.{SplitsText}
+use Rattle.mono_top.specs.ShowsTableau.{ShowsTableau}
+use Rattle.mono_top.specs.TooBig.{IsTooBigFor}
 use Rattle.mono_top.specs.FindsFeasible.{FindsFeasible}
 use Rattle.mono_top.specs.Solves.{IsCertified}
 use Rattle.mono_top.specs.Reports.{IsReported}
@@ -20,7 +23,7 @@ use Rattle.trial_model.specs.Trial.{trial_entries}
 use Rattle.mono_top.specs.declared.lines.Place.{Place}
 use Rattle.mono_top.specs.declared.lines.Place.TheVariants.{First, Second}
 use Rattle.mono_top.specs.declared.status.Status.{Status}
-use Rattle.mono_top.specs.declared.status.Status.TheVariants.{Usage, Missing, ReadFault, TooLong}
+use Rattle.mono_top.specs.declared.status.Status.TheVariants.{Usage, Missing, ReadFault, TooLong, TooBig}
 
 -- the outside as it is behind a file: the names that were started after it
 abbrev pub behind : List ℕ → Outside → Outside
@@ -40,12 +43,21 @@ ReadsThen place name Next outside status text =
     RefusesFile place name outside status text
     ⊎ ((bytes : List ℕ) × ForSome outside.holds (λ files. file_of files name ≡ Some bytes) × (length bytes ≤ file_most) × Next bytes status text)
 
+-- the model is too big, and the line says so; else the rest of the work follows
+abbrev pub UnlessTooBig : Type 0 → (Status → List ℕ → Type 0) → Status → List ℕ → Type 0
+UnlessTooBig TooBigModel Next status text =
+    TooBigModel × (status ≡ TooBig) × (text ≡ too_big_line)
+    ⊎ (¬ TooBigModel) × Next status text
+
 -- what is due to a question about a model that has been read; a further question is one more line
 abbrev pub AnswersModel : Question → Outside → Entries → Status → List ℕ → Type 0
 AnswersModel solve outside m status text = IsCertified m status text
 AnswersModel (check certificate) outside m status text = ReadsThen Second certificate (ChecksText m) outside status text
+AnswersModel (pieces certificate) outside m status text =
+    UnlessTooBig (IsTooBigFor (pieces certificate) m) (ReadsThen Second certificate (SplitsText m) outside) status text
 AnswersModel feasible outside m status text = FindsFeasible m status text
 AnswersModel (show_curve arc) outside m status text = ShowsCurve arc m status text
+AnswersModel show_tableau outside m status text = UnlessTooBig (IsTooBigFor show_tableau m) (ShowsTableau m) status text
 
 -- the order of the refusals is the order of the readings
 abbrev pub Answers : Option Request → Outside → Status → List ℕ → Type 0

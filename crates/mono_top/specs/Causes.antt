@@ -8,8 +8,10 @@ use Rattle.model_text.specs.declared.fault.FaultWord.{FaultWord}
 use Rattle.model_text.specs.Model.{place_of, arc_names}
 use Rattle.model_text.specs.ModelText.{Spells, IsFirstFault}
 use Rattle.mono_top.specs.Checks.{IsValidText}
+use Rattle.mono_top.specs.ShowsPieces.{IsFlowlessText}
+use Rattle.mono_top.specs.TooBig.{IsTooBigFor}
 use Rattle.mono_top.specs.Reading.{IsFileWith, AllReadable}
-use Rattle.mono_top.specs.Request.{Request, about_model, about_trial, Question, check, show_curve, files_of}
+use Rattle.mono_top.specs.Request.{Request, about_model, about_trial, Question, check, pieces, show_curve, files_of}
 use Rattle.mono_top.specs.declared.status.Status.{Status}
 use Rattle.mono_top.specs.declared.status.Status.TheVariants.{Done, Usage, Missing, ReadFault, WriteFault, NoMemory, TooLong}
 
@@ -30,9 +32,24 @@ abbrev pub AsksToCheck : Files → Entries → List ℕ → Option Request → T
 AsksToCheck files m text request =
     (certificate : List ℕ) × Asks files (check certificate) m request × IsFileWith files certificate (λ bytes. bytes ≡ text)
 
--- and that text is not one of a valid certificate
+-- `pieces` was asked for: the first file spells this model, which is not too big, and the second file has this text
+abbrev pub AsksToSplit : Files → Entries → List ℕ → Option Request → Type 0
+AsksToSplit files m text request =
+    (certificate : List ℕ) × Asks files (pieces certificate) m request × (¬ IsTooBigFor (pieces certificate) m)
+    × IsFileWith files certificate (λ bytes. bytes ≡ text)
+
+-- one of them was asked for, and that text is not one of a valid certificate
 abbrev pub AsksInvalid : Files → Option Request → Type 0
-AsksInvalid files request = (m : Entries) × (text : List ℕ) × AsksToCheck files m text request × ¬ IsValidText m text
+AsksInvalid files request =
+    (m : Entries) × (text : List ℕ) × (AsksToCheck files m text request ⊎ AsksToSplit files m text request) × ¬ IsValidText m text
+
+-- `pieces` was asked for, and that text is one of a valid certificate in which there is no flow
+abbrev pub AsksNoFlow : Files → Option Request → Type 0
+AsksNoFlow files request = (m : Entries) × (text : List ℕ) × AsksToSplit files m text request × IsFlowlessText m text
+
+-- the model is too big for the question
+abbrev pub AsksTooBig : Files → Option Request → Type 0
+AsksTooBig files request = (question : Question) × (m : Entries) × Asks files question m request × IsTooBigFor question m
 
 -- `curve` was asked for, and the model has no arc of that name
 abbrev pub AsksUnknownArc : Files → Option Request → Type 0

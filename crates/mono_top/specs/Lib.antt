@@ -1,4 +1,5 @@
 pub mod Answer
+pub mod Ascending
 pub mod Causes
 pub mod Checks
 pub mod CountsReadings
@@ -14,8 +15,11 @@ pub mod Replies
 pub mod Reports
 pub mod Request
 pub mod ShowsCurve
+pub mod ShowsPieces
+pub mod ShowsTableau
 pub mod Solves
 pub mod Starts
 pub mod Status
+pub mod TooBig
 pub mod TrialNumber
 pub mod VerdictLines

@@ -12,6 +12,12 @@ usage_line = codes "usage: monotropic COMMAND WORDS\n"
 abbrev pub unknown_arc_line : List ℕ
 unknown_arc_line = codes "unknown arc\n"
 
+abbrev pub too_big_line : List ℕ
+too_big_line = codes "too big\n"
+
+abbrev pub no_flow_line : List ℕ
+no_flow_line = codes "no flow\n"
+
 abbrev pub missing_line : Place → List ℕ
 missing_line First = codes "missing file 1\n"
 missing_line Second = codes "missing file 2\n"

@@ -5,6 +5,8 @@ use Rattle.theory.specs.Limits.{file_most}
 use Rattle.outside_io.specs.Files.{Files, file_of}
 use Rattle.outside_io.specs.Whole.{IsHeld, IsTooLong}
 use Rattle.model_text.specs.ModelText.{Spells}
+use Rattle.mono_top.specs.Request.{Request, about_model, Question, files_of}
+use Rattle.mono_top.specs.TooBig.{IsTooBigFor}
 
 -- the file is held, and not too long
 abbrev pub IsReadable : Files → List ℕ → Type 0
@@ -23,19 +25,28 @@ abbrev pub IsReadPastMost : Files → Option (List ℕ) → List ℕ → Type 0
 IsReadPastMost files rest name =
     (taken left : List ℕ) × (length taken ≡ file_most + 1) × (file_of files name ≡ Some (taken ++ left)) × (rest ≡ Some left)
 
--- P of a file that is reached: the file before it is one of a model
-abbrev pub Reaches : Files → (List ℕ → Type 0) → List (List ℕ) → Type 0
-Reaches files P [] = ⊥
-Reaches files P (name ∷ names) = P name ⊎ (IsModelFile files name × Reaches files P names)
+-- the file is readable, and its text spells a model that is not too big for the question
+abbrev pub IsOpenFor : Question → Files → List ℕ → Type 0
+IsOpenFor question files name = IsFileWith files name (λ text. (m : Entries) × Spells text m × (¬ IsTooBigFor question m))
 
-abbrev pub ReachesMissing : Files → List (List ℕ) → Type 0
-ReachesMissing files names = Reaches files (λ name. file_of files name ≡ None) names
+-- a file behind which the request reads the next one
+abbrev pub IsOpen : Option Request → Files → List ℕ → Type 0
+IsOpen (Some (about_model model question)) = IsOpenFor question
+IsOpen request = λ files name. ⊥
 
-abbrev pub ReachesTooLong : Files → List (List ℕ) → Type 0
-ReachesTooLong files names = Reaches files (λ name. IsTooLong files name file_most) names
+-- P of a file that is reached: the file before it is open
+abbrev pub Reaches : (List ℕ → Type 0) → (List ℕ → Type 0) → List (List ℕ) → Type 0
+Reaches Opens P [] = ⊥
+Reaches Opens P (name ∷ names) = P name ⊎ (Opens name × Reaches Opens P names)
 
-abbrev pub ReachesPastMost : Files → Option (List ℕ) → List (List ℕ) → Type 0
-ReachesPastMost files rest names = Reaches files (IsReadPastMost files rest) names
+abbrev pub ReachesMissing : Files → Option Request → Type 0
+ReachesMissing files request = Reaches (IsOpen request files) (λ name. file_of files name ≡ None) (files_of request)
+
+abbrev pub ReachesTooLong : Files → Option Request → Type 0
+ReachesTooLong files request = Reaches (IsOpen request files) (λ name. IsTooLong files name file_most) (files_of request)
+
+abbrev pub ReachesPastMost : Files → Option (List ℕ) → Option Request → Type 0
+ReachesPastMost files rest request = Reaches (IsOpen request files) (IsReadPastMost files rest) (files_of request)
 
 abbrev pub AllReadable : Files → List (List ℕ) → Type 0
 AllReadable files [] = ⊤

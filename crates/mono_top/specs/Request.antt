@@ -7,14 +7,16 @@ use Rattle.mono_top.specs.TrialNumber.{trial_number}
 use Rattle.mono_top.specs.declared.command.Command.{Command}
 use Rattle.mono_top.specs.declared.command.Command.TheVariants.{OnModel, Trial}
 use Rattle.mono_top.specs.declared.command.Task.{Task}
-use Rattle.mono_top.specs.declared.command.Task.TheVariants.{Solve, Check, Feasible, Curve}
+use Rattle.mono_top.specs.declared.command.Task.TheVariants.{Solve, Check, Pieces, Feasible, Curve, Tableau}
 
 -- what may be asked about a model, with the names of the files that are read after the model's
 pub data Question : Type 0 where
   solve : Question
   check : (certificate : List ℕ) → Question
+  pieces : (certificate : List ℕ) → Question
   feasible : Question
   show_curve : (arc : List ℕ) → Question
+  show_tableau : Question
 
 -- what may be asked for: a question about a model, with the name of its file; or the trial model of a number, which names no file
 pub data Request : Type 0 where
@@ -30,10 +32,12 @@ abbrev pub request_of : List (List ℕ) → Option Request
 request_of (command ∷ word ∷ []) =
     if pointwise nat_eq command (codes "trial") then option_map about_trial (trial_number word)
     else (if pointwise nat_eq command (codes "solve") then Some (about_model word solve)
-    else (if pointwise nat_eq command (codes "feasible") then Some (about_model word feasible) else None))
+    else (if pointwise nat_eq command (codes "feasible") then Some (about_model word feasible)
+    else (if pointwise nat_eq command (codes "tableau") then Some (about_model word show_tableau) else None)))
 request_of (command ∷ model ∷ other ∷ []) =
     if pointwise nat_eq command (codes "check") then Some (about_model model (check other))
-    else (if pointwise nat_eq command (codes "curve") then Some (about_model model (show_curve other)) else None)
+    else (if pointwise nat_eq command (codes "pieces") then Some (about_model model (pieces other))
+    else (if pointwise nat_eq command (codes "curve") then Some (about_model model (show_curve other)) else None))
 request_of words = None
 
 -- what the words of a call ask for
@@ -43,6 +47,7 @@ asked words = request_of (texts words)
 -- the files that are read after the model, in this order
 abbrev pub later_files : Question → List (List ℕ)
 later_files (check certificate) = certificate ∷ []
+later_files (pieces certificate) = certificate ∷ []
 later_files question = []
 
 -- the files that are read, in this order
@@ -55,8 +60,10 @@ files_of (Some (about_trial number)) = []
 abbrev pub question_by : Task → Question
 question_by Solve = solve
 question_by (Check certificate) = check certificate.now
+question_by (Pieces certificate) = pieces certificate.now
 question_by Feasible = feasible
 question_by (Curve arc) = show_curve arc.now
+question_by Tableau = show_tableau
 
 abbrev pub request_by : Command → Request
 request_by (OnModel model task) = about_model model.now (question_by task)

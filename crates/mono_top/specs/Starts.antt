@@ -5,27 +5,32 @@ use Rattle.theory.specs.Grounded.{Entries}
 use Rattle.outside_io.specs.Files.{Files}
 use Rattle.outside_io.specs.Seen.{Seen, Outside, logged}
 use Rattle.mono_top.specs.Causes.{Asks}
-use Rattle.mono_top.specs.Reading.{IsModelFile}
-use Rattle.mono_top.specs.Request.{Request, about_model, about_trial, Question, check, later_files, files_of}
+use Rattle.mono_top.specs.Reading.{IsOpenFor}
+use Rattle.mono_top.specs.Request.{Request, about_model, about_trial, Question, check, pieces, later_files, files_of}
+use Rattle.mono_top.specs.TooBig.{IsTooBigFor}
 
--- the later files are started only where the first one spells a model; words that name no file start none
+-- the later files are started only where the first one spells a model that is not too big for the question; words that name no file start none
 abbrev pub StartsInTurn : Option Request → Outside → Type 0
 StartsInTurn None outside = outside.started []
 StartsInTurn (Some (about_trial number)) outside = outside.started []
 StartsInTurn (Some (about_model model question)) outside =
     outside.started (model ∷ [])
-    ⊎ outside.started (model ∷ later_files question) × ForSome outside.holds (λ files. IsModelFile files model)
+    ⊎ outside.started (model ∷ later_files question) × ForSome outside.holds (λ files. IsOpenFor question files model)
 
--- the files that a question reads after the model were started
-abbrev pub StartsLater : Question → Seen → Seen → Type 0
-StartsLater (check certificate) old new = new.log ≡ logged old.log (certificate ∷ [])
-StartsLater question old new = new.log ≡ old.log
+-- the files that a question reads after the model were started; none where the model is too big for it
+abbrev pub StartsLater : Question → Entries → Seen → Seen → Type 0
+StartsLater (check certificate) m old new = new.log ≡ logged old.log (certificate ∷ [])
+StartsLater (pieces certificate) m old new =
+    IsTooBigFor (pieces certificate) m × (new.log ≡ old.log)
+    ⊎ (¬ IsTooBigFor (pieces certificate) m) × (new.log ≡ logged old.log (certificate ∷ []))
+StartsLater question m old new = new.log ≡ old.log
 
--- a question is asked about a file that spells a model
+-- a question is asked about a file that spells a model, which is not too big for it
 abbrev pub AsksOfModel : Files → Option Request → Type 0
-AsksOfModel files request = (question : Question) × (m : Entries) × Asks files question m request
+AsksOfModel files request = (question : Question) × (m : Entries) × Asks files question m request × (¬ IsTooBigFor question m)
 
--- Exactly these files were started. Where the first of them spells a model, all of them were, but for a fault of the
+-- Exactly these files were started. Where the first of them spells a model that is not too
+-- big, all of them were, but for a fault of the
 -- source or where the call starved.
 pub record StartsFiles (request : Option Request) (outside : Outside) (starved : Type 0) : Type 0 where
   pub in_turn : StartsInTurn request outside

@@ -1,7 +1,7 @@
 -- The exit code of each status.
 use Rattle.std.specs.Prelude.{ℕ}
 use Rattle.mono_top.specs.declared.status.Status.{Status}
-use Rattle.mono_top.specs.declared.status.Status.TheVariants.{Done, Cut, Circuit, Rejected, Usage, ModelRefused, Missing, ReadFault, WriteFault, NoMemory, TooLong, UnknownArc}
+use Rattle.mono_top.specs.declared.status.Status.TheVariants.{Done, Cut, Circuit, Rejected, Usage, ModelRefused, Missing, ReadFault, WriteFault, NoMemory, TooLong, TooBig, UnknownArc, NoFlow}
 
 abbrev pub code_of : Status → ℕ
 code_of Done = 0
@@ -15,4 +15,6 @@ code_of ReadFault = 7
 code_of WriteFault = 8
 code_of NoMemory = 9
 code_of TooLong = 10
+code_of TooBig = 11
 code_of UnknownArc = 12
+code_of NoFlow = 15

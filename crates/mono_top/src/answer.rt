@@ -13,8 +13,10 @@ use crate::command::{Command, Task, command_of};
 use crate::feasible::feasible;
 use crate::fetch::{FetchedModel, fetch_model};
 use crate::lines;
+use crate::pieces::pieces;
 use crate::reply::Reply;
 use crate::show_curve::show_curve;
+use crate::show_tableau::show_tableau;
 use crate::solve::solve;
 use crate::status::Status;
 use crate::trial::trial;
@@ -101,13 +103,15 @@ fn answer<S: Shelf, L: Ledger>(
         (AnswersModel (question_by task.entry) (since (S.seen shelf.old) (S.seen shelf.new))
         model.now.entries) result }
     ensures readings { ReadsCurves (question_by task.entry) model.now.entries steps.old steps.new }
-    ensures later { StartsLater (question_by task.entry) (S.seen shelf.old) (S.seen shelf.new) }
+    ensures later { StartsLater (question_by task.entry) model.now.entries (S.seen shelf.old) (S.seen shelf.new) }
     ensures moves { Moves (S.seen shelf.old) (S.seen shelf.new) }
 {
     match task {
         Task::Solve => Ok(solve(alloc, model, steps)?),
         Task::Check { certificate } => Ok(check(alloc, shelf, model, certificate)?),
+        Task::Pieces { certificate } => Ok(pieces(alloc, shelf, model, certificate)?),
         Task::Feasible => Ok(feasible(alloc, model, steps)?),
         Task::Curve { arc } => Ok(show_curve(alloc, model, arc)?),
+        Task::Tableau => Ok(show_tableau(alloc, model)?),
     }
 }

@@ -7,7 +7,8 @@ use std::test::Fail;
 const CORNER: &[u8] = b"network 1\nnode s 4\nnode t -4\narc a s t 0 2 4 5 10\n";
 
 /// Two arcs of the same price.
-const TWO_WAYS: &[u8] = b"network 1\nnode s 6\nnode t -6\narc a s t 0 1 10\narc b s t 0 1 10\n";
+pub(crate) const TWO_WAYS: &[u8] =
+    b"network 1\nnode s 6\nnode t -6\narc a s t 0 1 10\narc b s t 0 1 10\n";
 
 /// Going round over a and b earns 2.
 pub(crate) const ROUND: &[u8] =

@@ -17,8 +17,10 @@ pub(crate) enum Command<'a> {
 pub(crate) enum Task<'a> {
     Solve,
     Check { certificate: &'a str },
+    Pieces { certificate: &'a str },
     Feasible,
     Curve { arc: &'a str },
+    Tableau,
 }
 
 /// The words' own bytes serve as names, so this takes no memory.
@@ -43,6 +45,8 @@ fn with_one<'a>(command: &str, word: &'a str) -> Option<Command<'a>>
         Task::Solve
     } else if command == "feasible" {
         Task::Feasible
+    } else if command == "tableau" {
+        Task::Tableau
     } else {
         return None;
     };
@@ -64,6 +68,8 @@ fn with_two<'a>(command: &str, model: &'a str, other: &'a str) -> Option<Command
 {
     let task = if command == "check" {
         Task::Check { certificate: other }
+    } else if command == "pieces" {
+        Task::Pieces { certificate: other }
     } else if command == "curve" {
         Task::Curve { arc: other }
     } else {

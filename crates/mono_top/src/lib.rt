@@ -2,13 +2,16 @@
 #![tactic(auto)]
 
 mod answer;
+mod ascending;
 mod check;
 mod command;
 mod feasible;
 mod fetch;
 mod lines;
+mod pieces;
 mod reply;
 mod show_curve;
+mod show_tableau;
 mod solve;
 mod status;
 mod top;
@@ -25,6 +28,10 @@ mod check_tests;
 #[cfg(test)]
 mod feasible_tests;
 #[cfg(test)]
+mod pieces_tests;
+#[cfg(test)]
 mod solve_tests;
+#[cfg(test)]
+mod tableau_tests;
 #[cfg(test)]
 mod tests;

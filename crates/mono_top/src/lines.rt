@@ -1,6 +1,6 @@
 // The lines that refuse.
 ghost use Rattle.std.specs.Prelude.{◌≡◌, IfOk};
-ghost use Rattle.mono_top.specs.Lines.{usage_line, unknown_arc_line, missing_line, read_fault_line, too_long_line, word_of, model_line};
+ghost use Rattle.mono_top.specs.Lines.{usage_line, unknown_arc_line, too_big_line, no_flow_line, missing_line, read_fault_line, too_long_line, word_of, model_line};
 
 use itoa::Buffer;
 use model_text::FaultWord;
@@ -24,6 +24,18 @@ pub(crate) fn unknown_arc() -> &'static [u8]
     ensures { result.now ≡ unknown_arc_line }
 {
     b"unknown arc\n"
+}
+
+pub(crate) fn too_big() -> &'static [u8]
+    ensures { result.now ≡ too_big_line }
+{
+    b"too big\n"
+}
+
+pub(crate) fn no_flow() -> &'static [u8]
+    ensures { result.now ≡ no_flow_line }
+{
+    b"no flow\n"
 }
 
 pub(crate) fn missing(place: Place) -> &'static [u8]

@@ -19,7 +19,11 @@ pub enum Status {
     WriteFault,
     NoMemory,
     TooLong,
+    /// The network is too big for the command.
+    TooBig,
     UnknownArc,
+    /// The certificate is valid, and there is no flow in it.
+    NoFlow,
 }
 
 impl Status {
@@ -39,7 +43,9 @@ impl Status {
             Status::WriteFault => 8,
             Status::NoMemory => 9,
             Status::TooLong => 10,
+            Status::TooBig => 11,
             Status::UnknownArc => 12,
+            Status::NoFlow => 15,
         }
     }
 }

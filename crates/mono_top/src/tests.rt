@@ -229,7 +229,17 @@ fn fits_word(word: &str, form: &str, number: &mut Option<i64>) -> bool {
 
 /// Runs the row's call and compares what comes of it.
 pub(crate) fn compare(rt: &impl Abort, alloc: Global, row: &Row) -> Result<(), Fail> {
-    let (code, out) = outcome(alloc, row, row.second)?;
+    compare_with(rt, alloc, row, row.second)
+}
+
+/// The same with a second file that the test makes.
+pub(crate) fn compare_with(
+    rt: &impl Abort,
+    alloc: Global,
+    row: &Row,
+    second: Option<&[u8]>,
+) -> Result<(), Fail> {
+    let (code, out) = outcome(alloc, row, second)?;
     assert_eq!(rt; code, row.code, "{}", row.name);
     let text = str::from_utf8(out.bytes())?;
     assert!(rt;

@@ -6,7 +6,7 @@ ghost use Rattle.model_text.specs.declared.fault.FaultWord.{FaultWord as Fault};
 ghost use Rattle.outside_io.specs.Counts.{Rose, Counts};
 ghost use Rattle.outside_io.specs.Seen.{Moves, since};
 ghost use Rattle.mono_top.specs.Answer.{Answers};
-ghost use Rattle.mono_top.specs.Causes.{Asks, AsksFaulty, AsksToCheck, AsksInvalid, AsksTrial, AsksUnknownArc, ComesAlways, ComesBy, EndsTrial, IsAnswerable, IsUnhindered, GoesThrough};
+ghost use Rattle.mono_top.specs.Causes.{Asks, AsksFaulty, AsksToCheck, AsksInvalid, AsksNoFlow, AsksTooBig, AsksTrial, AsksUnknownArc, ComesAlways, ComesBy, EndsTrial, IsAnswerable, IsUnhindered, GoesThrough};
 ghost use Rattle.mono_top.specs.CountsReadings.{CountsReadings};
 ghost use Rattle.mono_top.specs.Headline.{Concludes, ConcludesCheck, ConcludesFeasible};
 ghost use Rattle.mono_top.specs.Ending.{WritesDue, WritesPart};
@@ -62,18 +62,22 @@ pub fn run<S: Shelf, K: Sink, L: Ledger>(
     ensures missing { result ≡ Status.Missing
         → Rose (S.seen shelf.old).misses (S.seen shelf.new).misses }
     ensures not_held { result ≡ Status.Missing → ForSome (S.seen shelf.old).holds
-        (λ files. ReachesMissing files (files_of (asked words.now))) }
+        (λ files. ReachesMissing files (asked words.now)) }
     ensures read_fault { result ≡ Status.ReadFault
         → Rose (S.seen shelf.old).faults (S.seen shelf.new).faults }
     ensures too_long { result ≡ Status.TooLong → ForSome (S.seen shelf.old).holds
-        (λ files. ReachesPastMost files (S.seen shelf.new).rest (files_of (asked words.now))) }
+        (λ files. ReachesPastMost files (S.seen shelf.new).rest (asked words.now)) }
     ensures too_long_always { ComesAlways Status.TooLong
-        (λ files. ReachesTooLong files (files_of (asked words.now)))
+        (λ files. ReachesTooLong files (asked words.now))
         (since (S.seen shelf.old) (S.seen shelf.new)) result }
     ensures refused { (line : ℕ) (word : Fault) → ComesBy (Status.ModelRefused line word)
         (λ files. AsksFaulty files line word (asked words.now))
         (since (S.seen shelf.old) (S.seen shelf.new)) result }
     ensures rejected { ComesBy Status.Rejected (λ files. AsksInvalid files (asked words.now))
+        (since (S.seen shelf.old) (S.seen shelf.new)) result }
+    ensures too_big { ComesBy Status.TooBig (λ files. AsksTooBig files (asked words.now))
+        (since (S.seen shelf.old) (S.seen shelf.new)) result }
+    ensures no_flow { ComesBy Status.NoFlow (λ files. AsksNoFlow files (asked words.now))
         (since (S.seen shelf.old) (S.seen shelf.new)) result }
     ensures unknown_arc { ComesBy Status.UnknownArc
         (λ files. AsksUnknownArc files (asked words.now))

@@ -38,7 +38,7 @@ returns-in_ok-answer-in-Model-clause-starts g c =
     let new = g.S.Shelf.seen c.answer.new.shelf in
     starts_all c.args.name.now question (since old new) _ c.in-Model.model
     (rw c.in-Model.is at c.in_ok-model.ensures.fetches)
-    (started_later old mid new c.args.name.now c.fetch_model.ensures.log question c.answer.ensures.later)
+    (started_later old mid new c.args.name.now c.fetch_model.ensures.log question c.in-Model.model.entries c.answer.ensures.later)
 
 pub returns-in_err-answer-in-Model-clause-starts : goal.returns-in_err-answer-in-Model-clause-starts
 returns-in_err-answer-in-Model-clause-starts g c =
@@ -48,7 +48,7 @@ returns-in_err-answer-in-Model-clause-starts g c =
     let new = g.S.Shelf.seen c.answer.new.shelf in
     starts_all c.args.name.now question (since old new) _ c.in-Model.model
     (rw c.in-Model.is at c.in_ok-model.ensures.fetches)
-    (started_later old mid new c.args.name.now c.fetch_model.ensures.log question c.answer.ensures.later)
+    (started_later old mid new c.args.name.now c.fetch_model.ensures.log question c.in-Model.model.entries c.answer.ensures.later)
 
 pub returns-in-Refused-clause-starts : goal.returns-in-Refused-clause-starts
 returns-in-Refused-clause-starts g c =
