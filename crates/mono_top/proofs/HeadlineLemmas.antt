@@ -23,7 +23,7 @@ use Rattle.mono_top.specs.FindsFeasible.{FindsFeasible, status_of_parts}
 use Rattle.mono_top.specs.Headline.{Concludes, ConcludesCheck, ConcludesFeasible}
 use Rattle.mono_top.proofs.CheckLemmas.{IsJudged}
 use Rattle.mono_top.specs.declared.status.Status.{Status}
-use Rattle.mono_top.specs.declared.status.Status.TheVariants.{Cut, Circuit, Done, Rejected}
+use Rattle.mono_top.specs.declared.status.Status.TheVariants.{Cut, Circuit}
 
 one_is_one : 1 ≤ 1
 one_is_one = omega arith

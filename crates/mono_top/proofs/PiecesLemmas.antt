@@ -1,5 +1,5 @@
 -- Pieces of a flow in a network with its curves, which no piece looks at, and the flow of a valid certificate.
-use Rattle.std.proofs.Common.{◌≡◌, ℕ, zero, suc, ◌+◌, ◌<◌, ℤ, List, [], ◌∷◌, length, Some, subst, sym, arith}
+use Rattle.std.proofs.Common.{◌≡◌, ℕ, zero, suc, ◌<◌, ℤ, List, [], ◌∷◌, length, Some, subst, sym, arith}
 use Rattle.theory.specs.declared.network.Step.{Step}
 use Rattle.theory.specs.CurveList.{Listing}
 use Rattle.theory.specs.Network.{Network, «at»}

@@ -4,10 +4,8 @@ use Rattle.std.proofs.Common.{◌≡◌, ◌≢◌, ◌⊎◌, ℕ, ℤ, List, O
 use Rattle.theory.specs.Grounded.{Entries, grounded}
 use Rattle.theory.specs.Certificate.{Certificate, IsValid}
 use Rattle.model_text.specs.Model.{IsWellFormed}
-use Rattle.cert_text.specs.BadLine.{IsTextOf}
 use Rattle.cert_text.proofs.OneText.{bad_line_has_none}
 use Rattle.cert_text.proofs.OneCertificate.{one_certificate}
-use Rattle.cert_check.specs.Verdict.{IsVerdict}
 use Rattle.cert_check.specs.declared.judged.Judged.{Judged}
 use Rattle.cert_check.specs.declared.judged.Judged.TheVariants.{Accepted}
 use Rattle.cert_check.proofs.Verdicts.{accepted-is_valid}

@@ -1,5 +1,5 @@
 -- What `curve` answers to a model: the list and base of an arc's curve, and of its conjugate.
-use Rattle.std.specs.Prelude.{◌≡◌, ◌⊎◌, ℕ, List, [], ◌∷◌, ◌++◌, codes, Option, Some, None}
+use Rattle.std.specs.Prelude.{◌≡◌, ℕ, List, [], ◌∷◌, ◌++◌, codes, Option, Some, None}
 use Rattle.theory.specs.CurveList.{Listing}
 use Rattle.theory.specs.Views.{conjugate_of}
 use Rattle.theory.specs.Grounded.{Entries}
