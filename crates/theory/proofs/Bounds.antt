@@ -1,16 +1,17 @@
--- How large the numbers of a curve are. A sum of two numbers within m and n is within m + n, a product within m * n. Between
--- two flows within n a piece with a slope within m rises by at most m * (n + n): both flows, moved into the piece, are still
--- within n. So a cost is within the limit of the base plus that for each piece. All items of a list but its two ends are whole,
--- and the points among them rise, so point k is at least k above the lower limit: a list within n has at most 2 n + 1 such
--- points, which bounds its length and with it every cost. The base of the conjugate is the greatest of finitely many values,
--- each a number of the list times the tension at rest less the cost there.
-use Rattle.std.proofs.Common.{◌≡◌, ℕ, zero, suc, ◌+◌, ◌*◌, ◌-◌, ◌^◌, ◌/◌, ◌<◌, ◌≤◌, List, [], ◌∷◌, length, inl, inr, add-one, arith, FitsSigned}
-use Rattle.std.specs.Prelude.{ℤ, pos, negsuc, ◌+ℤ◌, ◌-ℤ◌, ◌*ℤ◌, ◌≤ℤ◌, ◌<ℤ◌}
+-- How large the numbers of a curve are. A sum of two numbers within m and n is within m + n, a product within m * n. The way
+-- from one flow to another falls apart into the parts on the pieces: up to the right end of a piece the two flows, moved down to
+-- that end, lie as far apart as up to the left end, and further by the part on the piece. So all parts have one sign and add up to
+-- at most the way itself, and a cost is within the limit of the base plus the greatest slope times the way, however many pieces
+-- there are. All items of a list but its two ends are whole, and the points among them rise, so point k is at least k above the
+-- lower limit: a list within n has at most 2 n + 1 such points, which bounds its length. The base of the conjugate is the greatest
+-- of finitely many values, each a number of the list times the tension at rest less the cost there.
+use Rattle.std.proofs.Common.{◌≡◌, refl, ℕ, zero, suc, ◌+◌, ◌*◌, ◌-◌, ◌^◌, ◌/◌, ◌<◌, ◌≤◌, List, [], ◌∷◌, length, inl, inr, add-one, arith, FitsSigned}
+use Rattle.std.specs.Prelude.{ℤ, pos, negsuc, neg_ℤ, ◌+ℤ◌, ◌-ℤ◌, ◌*ℤ◌, ◌≤ℤ◌, ◌<ℤ◌}
 use Rattle.std.specs.Prelude.{unsigned_abs, Bool, true, false, if◌then◌else◌}
 use Rattle.std.specs.Int.{w64, w128}
 use Rattle.std.proofs.lemmas.List.{get_or_past}
 use Rattle.std.proofs.lemmas.Bool.{cases_lt}
-use Rattle.std.proofs.lemmas.Int.{ints, clamps, unsigned_abs-mul, fits_signed_from_abs}
+use Rattle.std.proofs.lemmas.Int.{ints, clamps, by_lt_z, unsigned_abs-mul, fits_signed_from_abs}
 use Rattle.std.proofs.Math.Nat.{mul-le-mul_left}
 use Rattle.theory.specs.declared.ext.Ext.{Ext}
 use Rattle.theory.specs.declared.ext.Ext.TheVariants.{MinusInf, At, PlusInf}
@@ -22,9 +23,10 @@ use Rattle.theory.specs.Span.{span_low, span_high, rest_tension}
 use Rattle.theory.specs.ConjugateCost.{with_finite, finite_points, or_one, listed_points}
 use Rattle.theory.specs.Views.{conjugate_of}
 use Rattle.theory.specs.Cost.{rise, cost}
-use Rattle.theory.specs.Limits.{AreWithin, items_most, number_most, base_most, IsWithin, flow_most}
+use Rattle.theory.specs.Limits.{AreWithin, number_most, base_most, IsWithin, flow_most}
 use Rattle.theory.specs.PieceAt.{piece_at}
 use Rattle.theory.proofs.Shape.{less_of}
+use Rattle.theory.proofs.Rings.{rings}
 use Rattle.theory.proofs.Places.{first_at, last_at, sum_over-pieces}
 
 -- ---- sums and products
@@ -87,11 +89,6 @@ lowered_within n PlusInf x h k = k
 pub clip_within : (n : ℕ) (l r : Ext) (x : ℤ) → IsWithin n (whole l) → IsWithin n (whole r) → IsWithin n x → IsWithin n (clip 1 l r x)
 clip_within n l r x left right inside = lowered_within n r (raised 1 l x) right (raised_within n l x left inside)
 
-pub rise_within : (m n : ℕ) (k : Piece) (x y : ℤ) → IsWithin m k.slope → IsWithin n (whole k.left) → IsWithin n (whole k.right) → IsWithin n x → IsWithin n y → IsWithin (m * (n + n)) (rise 1 x y k)
-rise_within m n k x y slope left right from to =
-    within_product m (n + n) k.slope (clip 1 k.left k.right y -ℤ clip 1 k.left k.right x) slope
-    (within_difference n n (clip 1 k.left k.right y) (clip 1 k.left k.right x) (clip_within n k.left k.right y left right to) (clip_within n k.left k.right x left right from))
-
 pub negated-within : (n : ℕ) (e : Ext) → IsWithin n (whole e) → IsWithin n (whole (negated e))
 negated-within n MinusInf h = h
 negated-within n (At a) h = let low = h.0 in let high = h.1 in (omega (arith, ints), omega (arith, ints))
@@ -106,14 +103,6 @@ past_within n items k past =
 pub item_within : (n : ℕ) (items : List Ext) → AreWithin n items → (k : ℕ) → IsWithin n (whole (item items k))
 item_within n items within k =
     elim (cases_lt k (length items)) [ inl there ↦ within k there | inr past ↦ past_within n items k past ]
-
-pub piece_rise_within : (m n : ℕ) (items : List Ext) (from to : ℤ) (k : ℕ) → m ≤ n → AreWithin m items → IsWithin n from → IsWithin n to → IsWithin (m * (n + n)) (rise 1 from to (piece_at items k))
-piece_rise_within m n items from to k more within start end =
-    rise_within m n (piece_at items k) from to
-    (item_within m items within (2 * k + 1))
-    (within_more m n (whole (item items (2 * k))) more (item_within m items within (2 * k)))
-    (within_more m n (whole (item items (2 * k + 2))) more (item_within m items within (2 * k + 2)))
-    start end
 
 finite_rises : (a b : Ext) → IsFinite a → IsFinite b → IsBelow a b → whole a <ℤ whole b
 finite_rises MinusInf b fa fb below = cc
@@ -141,6 +130,112 @@ length-short n items list within = elim (cases_lt (4 * n + 5) (length items)) [
   | inr short ↦ short
 ]
 
+-- ---- the way between two flows
+
+-- how far two flows lie apart once both are moved down to an end
+abbrev apart : Ext → ℤ → ℤ → ℤ
+apart e x y = lowered 1 e y -ℤ lowered 1 e x
+
+-- the part of the way between two flows that falls on a piece
+abbrev passed : Ext → Ext → ℤ → ℤ → ℤ
+passed l r x y = clip 1 l r y -ℤ clip 1 l r x
+
+apart-rises : (e : Ext) (x y : ℤ) → x ≤ℤ y → (pos 0 ≤ℤ apart e x y) × (apart e x y ≤ℤ (y -ℤ x))
+apart-rises MinusInf x y up = (omega (arith, ints), omega (arith, ints))
+apart-rises (At a) x y up = (omega (arith, ints, clamps), omega (arith, ints, clamps))
+apart-rises PlusInf x y up = (omega (arith, ints), omega (arith, ints))
+
+raised-apart : (l : Ext) (x y : ℤ) → x ≤ℤ y → (pos 0 ≤ℤ (raised 1 l y -ℤ raised 1 l x)) × ((raised 1 l y -ℤ raised 1 l x) ≤ℤ (y -ℤ x))
+raised-apart MinusInf x y up = (omega (arith, ints), omega (arith, ints))
+raised-apart (At a) x y up = (omega (arith, ints, clamps), omega (arith, ints, clamps))
+raised-apart PlusInf x y up = (omega (arith, ints), omega (arith, ints))
+
+passed-rises : (l r : Ext) (x y : ℤ) → x ≤ℤ y → (pos 0 ≤ℤ passed l r x y) × (passed l r x y ≤ℤ apart r x y)
+passed-rises l MinusInf x y up = raised-apart l x y up
+passed-rises MinusInf (At b) x y up = (omega (arith, ints, clamps), omega (arith, ints, clamps))
+passed-rises (At a) (At b) x y up = (omega (arith, ints, clamps), omega (arith, ints, clamps))
+passed-rises PlusInf (At b) x y up = (omega (arith, ints, clamps), omega (arith, ints, clamps))
+passed-rises l PlusInf x y up = raised-apart l x y up
+
+-- the way below the right end is the way below the left end and the part on the piece
+apart-next : (l r : Ext) (x y : ℤ) → IsFinite l → IsBelow l r → apart r x y ≡ apart l x y +ℤ passed l r x y
+apart-next MinusInf r x y finite below = absurd finite
+apart-next (At a) MinusInf x y finite below = absurd below
+apart-next (At a) (At b) x y finite below = let up = less_of a b below in omega (arith, ints, clamps)
+apart-next (At a) PlusInf x y finite below = omega (arith, ints, clamps)
+apart-next PlusInf r x y finite below = absurd finite
+
+not_negative : (z : ℤ) → pos 0 ≤ℤ z → z ≡ pos (unsigned_abs z)
+not_negative (pos n) h = refl
+not_negative (negsuc n) h = absurd (omega (arith, ints))
+
+-- a slope times a part of the way
+rise-within : (m v : ℕ) (s d : ℤ) → IsWithin m s → pos 0 ≤ℤ d → d ≤ℤ pos v → IsWithin (m * v) (s *ℤ d)
+rise-within m v s d slope low high = within_product m v s d slope (omega (arith, ints), high)
+
+rises-within-next : (m v u w : ℕ) (a b : ℤ) → v ≡ u + w → IsWithin (m * u) a → IsWithin (m * w) b → IsWithin (m * v) (a +ℤ b)
+rises-within-next m v u w a b is below here =
+    within_more (m * u + m * w) (m * v) (a +ℤ b) (rw is (omega arith)) (within_sum (m * u) (m * w) a b below here)
+
+-- The rises of the first pieces, for two flows in order, are within the greatest slope times the way below the last of their ends.
+rises-within : (m : ℕ) (items : List Ext) (x y : ℤ) → IsCurveList items → AreWithin m items → x ≤ℤ y → (k v : ℕ) → 2 * k + 2 < length items
+    → apart (item items (2 * k + 2)) x y ≡ pos v → IsWithin (m * v) (sum_below (suc k) (λ j. rise 1 x y (piece_at items j)))
+rises-within m items x y list within up zero v inside is =
+    let part = passed-rises (item items 0) (item items 2) x y up in
+    let here = rise-within m v (whole (item items 1)) (passed (item items 0) (item items 2) x y) (item_within m items within 1) part.0 (rw ← is at part.1) in
+    let low = here.0 in
+    let high = here.1 in
+    (omega (arith, ints), omega (arith, ints))
+rises-within m items x y list within up (suc k) v inside is =
+    let l = item items (2 * suc k) in
+    let r = item items (2 * suc k + 2) in
+    let e : 2 * suc k ≡ 2 * k + 2 = omega arith in
+    let before = apart-rises l x y up in
+    let part = passed-rises l r x y up in
+    let next = apart-next l r x y (list.inner_finite (2 * suc k) (omega arith) (omega arith)) (list.rises (2 * suc k) (omega arith)) in
+    let so_far : apart l x y ≡ pos (unsigned_abs (apart l x y)) = not_negative (apart l x y) before.0 in
+    let here : passed l r x y ≡ pos (unsigned_abs (passed l r x y)) = not_negative (passed l r x y) part.0 in
+    rises-within-next m v (unsigned_abs (apart l x y)) (unsigned_abs (passed l r x y))
+    (sum_below (suc k) (λ j. rise 1 x y (piece_at items j))) (rise 1 x y (piece_at items (suc k))) (omega (arith, ints))
+    (rises-within m items x y list within up k (unsigned_abs (apart l x y)) (omega arith) (rw e at so_far))
+    (rise-within m (unsigned_abs (passed l r x y)) (whole (item items (2 * suc k + 1))) (passed l r x y) (item_within m items within (2 * suc k + 1)) part.0 (omega (arith, ints)))
+
+rises-way : (m n : ℕ) (items : List Ext) (x y : ℤ) (k : ℕ) → IsCurveList items → AreWithin m items → x ≤ℤ y → IsWithin n x → IsWithin n y → k ≤ length items / 2
+    → IsWithin (m * (n + n)) (sum_below k (λ j. rise 1 x y (piece_at items j)))
+rises-way m n items x y zero list within up start end fits = nothing_within (m * (n + n))
+rises-way m n items x y (suc k) list within up start end fits =
+    let e = item items (2 * k + 2) in
+    let apart_most = apart-rises e x y up in
+    let v = unsigned_abs (apart e x y) in
+    let is : apart e x y ≡ pos v = not_negative (apart e x y) apart_most.0 in
+    let low = start.0 in
+    let high = end.1 in
+    let near : v ≤ n + n = omega (arith, ints) in
+    within_more (m * v) (m * (n + n)) (sum_below (suc k) (λ j. rise 1 x y (piece_at items j))) (mul-le-mul_left m near)
+    (rises-within m items x y list within up k v (omega (arith, list.odd)) is)
+
+product-back : (s a b : ℤ) → s *ℤ (a -ℤ b) ≡ neg_ℤ (s *ℤ (b -ℤ a))
+product-back s a b = omega (arith, rings)
+
+-- the other way round each rise has the opposite sign
+rises-back : (items : List Ext) (x y : ℤ) (k : ℕ) → sum_below k (λ j. rise 1 x y (piece_at items j)) ≡ neg_ℤ (sum_below k (λ j. rise 1 y x (piece_at items j)))
+rises-back items x y zero = refl
+rises-back items x y (suc k) =
+    let more = rises-back items x y k in
+    let here = product-back (whole (item items (2 * k + 1))) (clip 1 (item items (2 * k)) (item items (2 * k + 2)) y) (clip 1 (item items (2 * k)) (item items (2 * k + 2)) x) in
+    omega (arith, ints)
+
+pub all_rises-within : (m n : ℕ) (items : List Ext) (x y : ℤ) (k : ℕ) → IsCurveList items → AreWithin m items → IsWithin n x → IsWithin n y → k ≤ length items / 2
+    → IsWithin (m * (n + n)) (sum_below k (λ j. rise 1 x y (piece_at items j)))
+all_rises-within m n items x y k list within start end fits =
+    by_lt_z y x
+    (λ down.
+      let back = rises-way m n items y x k list within (omega (arith, ints)) end start fits in
+      let low = back.0 in
+      let high = back.1 in
+      rw (rises-back items x y k) (omega (arith, ints), omega (arith, ints)))
+    (λ up. rises-way m n items x y k list within up start end fits)
+
 -- ---- the cost up to a piece
 
 -- the cost on the way: the base and the rises of the first pieces
@@ -162,12 +257,12 @@ cost_up_to-all items base to list =
     let one : pos 1 *ℤ rest_point items ≡ rest_point items = omega (arith, ints) in
     rw (one, e) (omega (arith, ints))
 
-pub cost_up_to-within : (b m n : ℕ) (items : List Ext) (base from to : ℤ) (k : ℕ) → m ≤ n → AreWithin m items → IsWithin b base → IsWithin n from → IsWithin n to
-    → IsWithin (b + k * (m * (n + n))) (cost_up_to items base from to k)
+pub cost_up_to-within : (b m n : ℕ) (items : List Ext) (base from to : ℤ) (k : ℕ) → IsCurveList items → AreWithin m items → IsWithin b base → IsWithin n from → IsWithin n to
+    → k ≤ length items / 2 → IsWithin (b + m * (n + n)) (cost_up_to items base from to k)
 unfolding cost_up_to
-cost_up_to-within b m n items base from to k more within low start end =
-    within_sum b (k * (m * (n + n))) base (sum_below k (λ j. rise 1 from to (piece_at items j))) low
-    (sum_below-within (m * (n + n)) (λ j. rise 1 from to (piece_at items j)) (λ j. piece_rise_within m n items from to j more within start end) k)
+cost_up_to-within b m n items base from to k list within low start end fits =
+    within_sum b (m * (n + n)) base (sum_below k (λ j. rise 1 from to (piece_at items j))) low
+    (all_rises-within m n items from to k list within start end fits)
 
 pub rest_point-within : (n : ℕ) (items : List Ext) → IsCurveList items → AreWithin n items → IsWithin n (rest_point items)
 rest_point-within n items list within =
@@ -176,19 +271,18 @@ rest_point-within n items list within =
     clip_within n (first items) (last items) (pos 0) low high (nothing_within n)
 
 pub cost-within : (b m n : ℕ) (items : List Ext) (base x : ℤ) → IsCurveList items → m ≤ n → AreWithin m items → IsWithin b base → IsWithin n x
-    → IsWithin (b + length items / 2 * (m * (n + n))) (cost 1 (record { items = items; base = base }) x)
+    → IsWithin (b + m * (n + n)) (cost 1 (record { items = items; base = base }) x)
 cost-within b m n items base x list more within low inside =
     rw (← cost_up_to-all items base x list)
-    (cost_up_to-within b m n items base (rest_point items) x (length items / 2) more within low (within_more m n (rest_point items) more (rest_point-within m items list within)) inside)
+    (cost_up_to-within b m n items base (rest_point items) x (length items / 2) list within low (within_more m n (rest_point items) more (rest_point-within m items list within)) inside (omega arith))
 
 -- a cost on the way stays far below the largest 128-bit number
 pub priced_within : (items : List Ext) (base to : ℤ) (k : ℕ) → IsCurveList items → AreWithin number_most items → IsWithin (2 * base_most) base → IsWithin (2 * flow_most) to
     → k ≤ length items / 2 → IsWithin (10 ^ 28) (cost_up_to items base (rest_point items) to k)
 priced_within items base to k list within low inside fits =
-    let short = length-short number_most items list within in
     let from = within_more number_most (2 * flow_most) (rest_point items) (omega arith) (rest_point-within number_most items list within) in
-    within_more (2 * base_most + k * (number_most * (2 * flow_most + 2 * flow_most))) (10 ^ 28) (cost_up_to items base (rest_point items) to k) (omega arith)
-    (cost_up_to-within (2 * base_most) number_most (2 * flow_most) items base (rest_point items) to k (omega arith) within low from inside)
+    within_more (2 * base_most + number_most * (2 * flow_most + 2 * flow_most)) (10 ^ 28) (cost_up_to items base (rest_point items) to k) (omega arith)
+    (cost_up_to-within (2 * base_most) number_most (2 * flow_most) items base (rest_point items) to k list within low from inside fits)
 
 -- ---- the base of the conjugate
 
@@ -247,23 +341,23 @@ pub rest_tension-within : (n : ℕ) (items : List Ext) → AreWithin n items →
 rest_tension-within n items within =
     clip_within n (span_low items) (span_high items) (pos 0) (span_low-within n items within) (span_high-within n items within) (nothing_within n)
 
-conjugate_value_within : (items : List Ext) (base b : ℤ) → IsCurveList items → AreWithin number_most items → length items ≤ items_most → IsWithin base_most base → IsWithin number_most b
+conjugate_value_within : (items : List Ext) (base b : ℤ) → IsCurveList items → AreWithin number_most items → IsWithin base_most base → IsWithin number_most b
     → IsWithin (2 * base_most) (rest_tension items *ℤ b -ℤ cost 1 (record { items = items; base = base }) (pos 1 *ℤ b))
-conjugate_value_within items base b list within short low inside =
+conjugate_value_within items base b list within low inside =
     let one : pos 1 *ℤ b ≡ b = omega (arith, ints) in
     let priced = cost-within base_most number_most number_most items base b list (omega arith) within low inside in
     let product = within_product number_most number_most (rest_tension items) b (rest_tension-within number_most items within) inside in
-    let all = within_difference (number_most * number_most) (base_most + length items / 2 * (number_most * (number_most + number_most))) (rest_tension items *ℤ b) (cost 1 (record { items = items; base = base }) b) product priced in
+    let all = within_difference (number_most * number_most) (base_most + number_most * (number_most + number_most)) (rest_tension items *ℤ b) (cost 1 (record { items = items; base = base }) b) product priced in
     rw one
-    (within_more (number_most * number_most + (base_most + length items / 2 * (number_most * (number_most + number_most)))) (2 * base_most)
+    (within_more (number_most * number_most + (base_most + number_most * (number_most + number_most))) (2 * base_most)
     (rest_tension items *ℤ b -ℤ cost 1 (record { items = items; base = base }) b) (omega arith) all)
 
 -- It is a flow times a tension less a cost, each near 0 but for the base.
-pub conjugate_base-within : (items : List Ext) (base : ℤ) → IsCurveList items → AreWithin number_most items → length items ≤ items_most → IsWithin base_most base
+pub conjugate_base-within : (items : List Ext) (base : ℤ) → IsCurveList items → AreWithin number_most items → IsWithin base_most base
     → IsWithin (2 * base_most) (conjugate_of (record { items = items; base = base })).base
-conjugate_base-within items base list within short low =
+conjugate_base-within items base list within low =
     let w = rest_tension items in
-    let value : (b : ℤ) → IsWithin number_most b → IsWithin (2 * base_most) (w *ℤ b -ℤ cost 1 (record { items = items; base = base }) (pos 1 *ℤ b)) = (λ b inside. conjugate_value_within items base b list within short low inside) in
+    let value : (b : ℤ) → IsWithin number_most b → IsWithin (2 * base_most) (w *ℤ b -ℤ cost 1 (record { items = items; base = base }) (pos 1 *ℤ b)) = (λ b inside. conjugate_value_within items base b list within low inside) in
     greatest_over-within (2 * base_most) (λ b. w *ℤ b -ℤ cost 1 (record { items = items; base = base }) (pos 1 *ℤ b)) (listed_points items)
     (Each-within number_most _ (listed_points items) value
     (or_one-within number_most (finite_points items) (rest_point items) (rest_point-within number_most items list within) (finite_points-within number_most items within)))

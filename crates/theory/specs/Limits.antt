@@ -9,10 +9,10 @@ use Rattle.theory.specs.CurveList.{item}
 
 -- the most nodes and the most arcs
 abbrev pub nodes_most : ℕ
-nodes_most = 2000
+nodes_most = 10000
 
 abbrev pub arcs_most : ℕ
-arcs_most = 10000
+arcs_most = 50000
 
 -- of its network with the ground: one node more, and one arc more for each node
 abbrev pub grounded_nodes_most : ℕ
@@ -20,6 +20,10 @@ grounded_nodes_most = nodes_most + 1
 
 abbrev pub grounded_arcs_most : ℕ
 grounded_arcs_most = nodes_most + arcs_most
+
+-- of what a pass takes: one arc more, which may close the network
+abbrev pub closed_arcs_most : ℕ
+closed_arcs_most = grounded_arcs_most + 1
 
 -- the most items of a curve list
 abbrev pub list_most : ℕ
@@ -34,7 +38,7 @@ abbrev pub name_most : ℕ
 name_most = 64
 
 abbrev pub file_most : ℕ
-file_most = 4194304
+file_most = 16777216
 
 -- ---- of numbers
 
@@ -44,11 +48,11 @@ IsWithin most z = (neg_ℤ (pos most) ≤ℤ z) × (z ≤ℤ pos most)
 
 -- the greatest magnitude of a point and of a slope
 abbrev pub number_most : ℕ
-number_most = 1000000
+number_most = 1000000000
 
 -- the number of the top level: twice itself so often, 1 is above every point
 abbrev pub level_most : ℕ
-level_most = 20
+level_most = 30
 
 -- of a base
 abbrev pub base_most : ℕ
