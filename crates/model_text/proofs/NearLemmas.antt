@@ -5,6 +5,7 @@ use Rattle.std.specs.Str.Parse.{digits_value_after}
 use Rattle.std.specs.Char.{digit_value, is_ascii_digit}
 use Rattle.std.proofs.Common.{arith, sym, ◌∙◌, ap, get_or}
 use Rattle.std.proofs.lemmas.List.{drop_more}
+use Rattle.theory.specs.Limits.{number_most}
 use Rattle.model_text.specs.NearNumbers.{near_digits}
 
 -- what digits after those of a number give
@@ -13,11 +14,11 @@ near_after n digits = near_digits (digits_value_after 10 n digits)
 
 -- a number past the limit stays past it
 after-min : (n : ℕ) (digits : List ℕ)
-    → min (digits_value_after 10 (min n 1000001) digits) 1000001 ≡ min (digits_value_after 10 n digits) 1000001
+    → min (digits_value_after 10 (min n (number_most + 1)) digits) (number_most + 1) ≡ min (digits_value_after 10 n digits) (number_most + 1)
 after-min n [] = omega arith
 after-min n (d ∷ digits) =
-    sym (after-min (min n 1000001 * 10 + digit_value d) digits)
-    ∙ ap (λ m. min (digits_value_after 10 m digits) 1000001) (omega arith)
+    sym (after-min (min n (number_most + 1) * 10 + digit_value d) digits)
+    ∙ ap (λ m. min (digits_value_after 10 m digits) (number_most + 1)) (omega arith)
     ∙ after-min (n * 10 + digit_value d) digits
 
 digit-is : (d : ℕ) → is_ascii_digit d ≡ true → digit_value d ≡ d - 48
@@ -25,10 +26,10 @@ digit-is d is = grind arith
 
 -- one digit more
 pub near-step : (n i : ℕ) (digits : List ℕ) → i < length digits → is_ascii_digit (get_or digits i 0) ≡ true
-    → near_after n (drop i digits) ≡ near_after (min (10 * n + (get_or digits i 0 - 48)) 1000001) (drop (i + 1) digits)
+    → near_after n (drop i digits) ≡ near_after (min (10 * n + (get_or digits i 0 - 48)) (number_most + 1)) (drop (i + 1) digits)
 near-step n i digits below is =
     ap (near_after n) (drop_more digits i 0 below)
-    ∙ ap (λ m. min (digits_value_after 10 m (drop (i + 1) digits)) 1000001) (let e = digit-is (get_or digits i 0) is in omega arith)
+    ∙ ap (λ m. min (digits_value_after 10 m (drop (i + 1) digits)) (number_most + 1)) (let e = digit-is (get_or digits i 0) is in omega arith)
     ∙ sym (after-min (10 * n + (get_or digits i 0 - 48)) (drop (i + 1) digits))
 
 pub digits-drop : (i : ℕ) (digits : List ℕ) → i < length digits

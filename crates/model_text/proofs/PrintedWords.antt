@@ -74,7 +74,7 @@ digits-number n (d ∷ ds) is =
     let no_plus : (d == 43) ≡ false = grind (arith, nat_tests) in
     rw (no_minus, no_plus) (ap (option_map pos) is.value)
 
-pub small-by : (z : ℤ) → IsWithin number_most z → unsigned_abs z ≤ 1000000
+pub small-by : (z : ℤ) → IsWithin number_most z → unsigned_abs z ≤ number_most
 small-by (pos n) within = let low = within.0 in let high = within.1 in omega (arith, ints)
 small-by (negsuc n) within = let low = within.0 in let high = within.1 in omega (arith, ints)
 

@@ -26,11 +26,11 @@ refused =
     ∷ (codes "arc a s t 0 1 x", Number)
     ∷ (codes "arc a s t 0 1 2 base", Number)
     ∷ (codes "arc a s t 0 base 1 base 2", Number)
-    ∷ (codes "arc a s t 0 1000001 x", Number)
-    ∷ (codes "arc a s t 1000001 base", Number)
-    ∷ (codes "arc a s t 0 1 1000001", Limit)
-    ∷ (codes "arc a s t 0 1000001", Limit)
-    ∷ (codes "arc a s t 0 base -1000001", Limit)
+    ∷ (codes "arc a s t 0 1000000001 x", Number)
+    ∷ (codes "arc a s t 1000000001 base", Number)
+    ∷ (codes "arc a s t 0 1 1000000001", Limit)
+    ∷ (codes "arc a s t 0 1000000001", Limit)
+    ∷ (codes "arc a s t 0 base -1000000001", Limit)
     ∷ (codes "arc a s t 0 2", Shape)
     ∷ (codes "arc a s t", Shape)
     ∷ (codes "arc a s t +inf", Shape)
@@ -49,7 +49,7 @@ refused_right = refl
 
 -- names come first, then the split at `base`
 accepted : List (List ℕ)
-accepted = codes "arc a s t 3" ∷ codes "arc a s t -1000000 -1000000 0 1000000 1000000" ∷ codes "node base 5" ∷ []
+accepted = codes "arc a s t 3" ∷ codes "arc a s t -1000000000 -1000000000 0 1000000000 1000000000" ∷ codes "node base 5" ∷ []
 
 accepted_right : map fourth accepted ≡ map (λ line. None) accepted
 unfolding accepted line_tests entries_of with_line line_words content line_listing line_names line_items line_base list_words base_words is_node_line is_arc_line lacks_names lacks_numbers is_beyond is_full is_misshapen has_fall is_twice is_unknown is_loop is_header has_words
@@ -94,7 +94,7 @@ returns_right = refl
 names_right : map is_name (replicate 64 97 ∷ replicate 65 97 ∷ [] ∷ []) ≡ true ∷ false ∷ false ∷ []
 names_right = refl
 
-many_digits : number_of (codes "-0000000000000000000000000000000001000000") ≡ Some (neg_ℤ (pos 1000000))
+many_digits : number_of (codes "-0000000000000000000000000000000001000000000") ≡ Some (neg_ℤ (pos 1000000000))
 many_digits = refl
 
 -- a text without words lacks its header after the last line

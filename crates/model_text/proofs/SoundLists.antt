@@ -27,8 +27,8 @@ pub record IsSound (items : List Ext) : Type 0 where
   pub rising : has_fall items ≡ false
 
 pub within : (z : ℤ) → is_over z ≡ false → IsWithin number_most z
-within (pos n) small = let most : n ≤ 1000000 = grind (arith, nat_tests) in (omega (arith, ints), omega (arith, ints))
-within (negsuc n) small = let most : n < 1000000 = grind (arith, nat_tests) in (omega (arith, ints), omega (arith, ints))
+within (pos n) small = let most : n ≤ number_most = grind (arith, nat_tests) in (omega (arith, ints), omega (arith, ints))
+within (negsuc n) small = let most : n < number_most = grind (arith, nat_tests) in (omega (arith, ints), omega (arith, ints))
 
 not-minus : (items : List Ext) → is_misplaced items ≡ false → (k : ℕ) → 0 < k → k < length items → is_minus_inf (item items k) ≡ false
 not-minus [] placed k after below = absurd (omega arith)

@@ -10,10 +10,10 @@ use std::alloc::{AllocError, Global};
 use thiserror::Error;
 
 /// The greatest number of nodes of a model.
-pub const NODES_MOST: usize = 2_000;
+pub const NODES_MOST: usize = 10_000;
 
 /// The greatest number of arcs of a model.
-pub const ARCS_MOST: usize = 10_000;
+pub const ARCS_MOST: usize = 50_000;
 
 /// The greatest number of items of a curve list of a model.
 pub const LIST_MOST: usize = 4_001;

@@ -9,7 +9,7 @@ use mono_curve::NUMBER_MOST;
 use theory::Ext;
 
 /// The first number beyond the limit of a model, which stands for all that are greater.
-const BEYOND: u32 = NUMBER_MOST as u32 + 1;
+const BEYOND: u64 = NUMBER_MOST as u64 + 1;
 
 /// The item that a word is: an infinity or a number.
 pub(crate) fn item(word: &[u8]) -> Option<Ext>
@@ -29,13 +29,13 @@ pub(crate) fn number(word: &[u8]) -> Option<i64>
     ensures { result ≡ option_map near_number (number_of word.now) }
 {
     match word {
-        [b'-', digits @ ..] => Some(-i64::from(magnitude(digits)?)),
-        [b'+', digits @ ..] => Some(i64::from(magnitude(digits)?)),
-        _ => Some(i64::from(magnitude(word)?)),
+        [b'-', digits @ ..] => Some(-(magnitude(digits)? as i64)),
+        [b'+', digits @ ..] => Some(magnitude(digits)? as i64),
+        _ => Some(magnitude(word)? as i64),
     }
 }
 
-fn magnitude(digits: &[u8]) -> Option<u32>
+fn magnitude(digits: &[u8]) -> Option<u64>
     ensures { result ≡ option_map near_digits (digits_of digits.now) }
 {
     if digits.is_empty() {
@@ -46,7 +46,7 @@ fn magnitude(digits: &[u8]) -> Option<u32>
         if !digit.is_ascii_digit() {
             return None;
         }
-        value = (10 * value + u32::from(*digit - b'0')).min(BEYOND);
+        value = (10 * value + u64::from(*digit - b'0')).min(BEYOND);
     }
     Some(value)
 }

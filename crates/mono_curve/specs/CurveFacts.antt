@@ -14,4 +14,4 @@ small_base c = within_more base_most (2 * base_most) c.listing.base (lit≤ tt) 
 
 pub small_conjugate_base : (c : CurveValue) → IsWithin (2 * base_most) (conjugate_of c.listing).base
 small_conjugate_base c =
-    conjugate_base-within c.listing.items c.listing.base c.valid.is_list c.valid.items_within c.valid.short c.valid.base_within
+    conjugate_base-within c.listing.items c.listing.base c.valid.is_list c.valid.items_within c.valid.base_within

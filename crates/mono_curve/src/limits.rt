@@ -1,7 +1,7 @@
 // Limits of the numbers of a curve.
 
 /// The greatest magnitude of a point and of a slope.
-pub const NUMBER_MOST: i64 = 1_000_000;
+pub const NUMBER_MOST: i64 = 1_000_000_000;
 
 /// The greatest magnitude of a base.
 pub const BASE_MOST: i128 = 1_000_000_000_000_000_000_000_000;
@@ -13,7 +13,7 @@ pub const FLOW_MOST: i64 = 1_000_000_000_000_000;
 pub const ARG_MOST: i64 = 1 << 62;
 
 /// The number of the top level.
-pub const LEVELS: u32 = 20;
+pub const LEVELS: u32 = 30;
 
 /// The most items of a curve's list: those of a model's list, and one more at either end, as the
 /// conjugate may have.

@@ -11,7 +11,7 @@ use outside_io::{ByteText, ReadAns, Shelf, read_file};
 use std::alloc::{AllocError, Global};
 
 /// The most bytes of a file.
-pub const FILE_MOST: usize = 4_194_304;
+pub const FILE_MOST: usize = 16_777_216;
 
 #[derive(Drop)]
 pub(crate) enum Fetched {

@@ -3,7 +3,7 @@
 use Rattle.std.specs.Prelude.{◌≡◌, ℕ, ◌≤◌, pos, List, length, map}
 use Rattle.theory.specs.declared.ext.Ext.{Ext}
 use Rattle.theory.specs.CurveList.{Listing}
-use Rattle.theory.specs.Limits.{grounded_nodes_most, grounded_arcs_most}
+use Rattle.theory.specs.Limits.{grounded_nodes_most, closed_arcs_most}
 use Rattle.theory.specs.Network.{Network}
 use Rattle.net_incidence.specs.Graph.{Graph, network}
 
@@ -18,4 +18,4 @@ pub record IsPassable (g : Graph) (curves : ℕ) : Type 0 where
   pub one_curve_each : curves ≡ length g.arcs
   pub some_node : 1 ≤ g.nodes
   pub few_nodes : g.nodes ≤ grounded_nodes_most
-  pub few_arcs : length g.arcs ≤ grounded_arcs_most
+  pub few_arcs : length g.arcs ≤ closed_arcs_most

@@ -5,7 +5,7 @@
 -- there are. All items of a list but its two ends are whole, and the points among them rise, so point k is at least k above the
 -- lower limit: a list within n has at most 2 n + 1 such points, which bounds its length. The base of the conjugate is the greatest
 -- of finitely many values, each a number of the list times the tension at rest less the cost there.
-use Rattle.std.proofs.Common.{◌≡◌, refl, ℕ, zero, suc, ◌+◌, ◌*◌, ◌-◌, ◌^◌, ◌/◌, ◌<◌, ◌≤◌, List, [], ◌∷◌, length, inl, inr, add-one, arith, FitsSigned}
+use Rattle.std.proofs.Common.{◌≡◌, refl, ℕ, zero, suc, ◌+◌, ◌*◌, ◌-◌, ◌^◌, ◌/◌, ◌<◌, ◌≤◌, List, [], ◌∷◌, length, inl, inr, subst, add-one, arith, FitsSigned}
 use Rattle.std.specs.Prelude.{ℤ, pos, negsuc, neg_ℤ, ◌+ℤ◌, ◌-ℤ◌, ◌*ℤ◌, ◌≤ℤ◌, ◌<ℤ◌}
 use Rattle.std.specs.Prelude.{unsigned_abs, Bool, true, false, if◌then◌else◌}
 use Rattle.std.specs.Int.{w64, w128}
@@ -159,11 +159,11 @@ passed-rises l PlusInf x y up = raised-apart l x y up
 
 -- the way below the right end is the way below the left end and the part on the piece
 apart-next : (l r : Ext) (x y : ℤ) → IsFinite l → IsBelow l r → apart r x y ≡ apart l x y +ℤ passed l r x y
-apart-next MinusInf r x y finite below = absurd finite
-apart-next (At a) MinusInf x y finite below = absurd below
+apart-next MinusInf r x y finite below = cc
+apart-next (At a) MinusInf x y finite below = cc
 apart-next (At a) (At b) x y finite below = let up = less_of a b below in omega (arith, ints, clamps)
 apart-next (At a) PlusInf x y finite below = omega (arith, ints, clamps)
-apart-next PlusInf r x y finite below = absurd finite
+apart-next PlusInf r x y finite below = cc
 
 not_negative : (z : ℤ) → pos 0 ≤ℤ z → z ≡ pos (unsigned_abs z)
 not_negative (pos n) h = refl
@@ -182,7 +182,7 @@ rises-within : (m : ℕ) (items : List Ext) (x y : ℤ) → IsCurveList items �
     → apart (item items (2 * k + 2)) x y ≡ pos v → IsWithin (m * v) (sum_below (suc k) (λ j. rise 1 x y (piece_at items j)))
 rises-within m items x y list within up zero v inside is =
     let part = passed-rises (item items 0) (item items 2) x y up in
-    let here = rise-within m v (whole (item items 1)) (passed (item items 0) (item items 2) x y) (item_within m items within 1) part.0 (rw ← is at part.1) in
+    let here = rise-within m v (whole (item items 1)) (passed (item items 0) (item items 2) x y) (item_within m items within 1) part.0 (omega (arith, ints)) in
     let low = here.0 in
     let high = here.1 in
     (omega (arith, ints), omega (arith, ints))
@@ -197,7 +197,7 @@ rises-within m items x y list within up (suc k) v inside is =
     let here : passed l r x y ≡ pos (unsigned_abs (passed l r x y)) = not_negative (passed l r x y) part.0 in
     rises-within-next m v (unsigned_abs (apart l x y)) (unsigned_abs (passed l r x y))
     (sum_below (suc k) (λ j. rise 1 x y (piece_at items j))) (rise 1 x y (piece_at items (suc k))) (omega (arith, ints))
-    (rises-within m items x y list within up k (unsigned_abs (apart l x y)) (omega arith) (rw e at so_far))
+    (rises-within m items x y list within up k (unsigned_abs (apart l x y)) (omega arith) (subst (λ p. apart (item items p) x y ≡ pos (unsigned_abs (apart l x y))) e so_far))
     (rise-within m (unsigned_abs (passed l r x y)) (whole (item items (2 * suc k + 1))) (passed l r x y) (item_within m items within (2 * suc k + 1)) part.0 (omega (arith, ints)))
 
 rises-way : (m n : ℕ) (items : List Ext) (x y : ℤ) (k : ℕ) → IsCurveList items → AreWithin m items → x ≤ℤ y → IsWithin n x → IsWithin n y → k ≤ length items / 2
