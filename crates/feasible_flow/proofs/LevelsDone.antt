@@ -7,7 +7,7 @@ use Rattle.std.proofs.lemmas.Bool.{cases_lt}
 use Rattle.theory.specs.declared.ext.Ext.{Ext}
 use Rattle.theory.specs.Sums.{sum_below, counted}
 use Rattle.theory.specs.CurveList.{IsCurveList}
-use Rattle.theory.specs.Limits.{AreWithin, number_most, level_most, grounded_arcs_most}
+use Rattle.theory.specs.Limits.{AreWithin, number_most, level_most, closed_arcs_most}
 use Rattle.theory.specs.Network.{«at», tail, head, list_at}
 use Rattle.theory.specs.Conserved.{IsConserved}
 use Rattle.theory.specs.Cut.{IsNegativeCut}
@@ -37,7 +37,7 @@ leveled-grows m d (suc e) l =
     (λ (above : suc e ≤ d). let same : d ≡ suc e = omega arith in rw same (omega arith))
     (cases_lt d (suc e))
 
-leveled-few : (m d : ℕ) → m ≤ grounded_arcs_most → d ≤ level_most + 1 → leveled m d ≤ near_most
+leveled-few : (m d : ℕ) → m ≤ closed_arcs_most → d ≤ level_most + 1 → leveled m d ≤ near_most
 leveled-few m d few l =
     let grows = leveled-grows m d (level_most + 1) l in
     omega (arith, grows)
@@ -68,7 +68,7 @@ pub record AreLeveled {A : Type 0} (f : A → List Ext) (g : Graph) (curves : Li
   pub are_lists : (j : ℕ) → IsCurveList (list_at (map f curves) j)
   pub within : (j : ℕ) → AreWithin number_most (list_at (map f curves) j)
   pub one_each : length curves ≡ length g.arcs
-  pub few : length g.arcs ≤ grounded_arcs_most
+  pub few : length g.arcs ≤ closed_arcs_most
 
 pub leveled-curves : {A : Type 0} (f : A → List Ext) → ((a : A) → IsCurveList (f a)) → ((a : A) → AreWithin number_most (f a)) → (g : Graph)
     (curves : List A) → IsPassable g (length curves) → AreLeveled f g curves

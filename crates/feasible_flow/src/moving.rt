@@ -1,6 +1,7 @@
 // Moving flow along steps.
 ghost use Rattle.std.specs.Prelude.{◌≡◌, ℕ, ◌*◌, ◌^◌, ◌<◌, ◌≤◌, pos, ◌+ℤ◌, FitsSigned, ◌∷◌, length};
 ghost use Rattle.std.specs.Int.{w64};
+ghost use Rattle.theory.specs.Limits.{grounded_nodes_most};
 ghost use Rattle.theory.specs.Network.{«at»};
 ghost use Rattle.theory.specs.Circuit.{step as step_of};
 ghost use Rattle.theory.specs.Sent.{sends, sent, sent_round};
@@ -38,6 +39,7 @@ pub(crate) fn double_flows(work: &mut Work)
 pub(crate) fn send_around(work: &mut Work, step: Step, amount: u64)
     requires step_there { step.arc.0 < work.old.arcs }
     requires walk_there { (k : ℕ) → k < length work.old.walk → (step_of work.old.walk k).arc.0 < work.old.arcs }
+    requires few { work.old.nodes ≤ grounded_nodes_most }
     requires near { AreNear near_most work.old.flows }
     requires amount_near { amount ≤ near_most }
     ensures flows { work.new.flows ≡ sent_round amount (step ∷ work.old.walk) work.old.flows }
@@ -50,6 +52,7 @@ pub(crate) fn send_around(work: &mut Work, step: Step, amount: u64)
 /// Moves the amount along the walk.
 fn send_along(work: &mut Work, amount: u64)
     requires there { (k : ℕ) → k < length work.old.walk → (step_of work.old.walk k).arc.0 < work.old.arcs }
+    requires few { work.old.nodes ≤ grounded_nodes_most }
     requires near { AreNear (2 * near_most) work.old.flows }
     requires amount_near { amount ≤ near_most }
     ensures flows { work.new.flows ≡ sent_round amount work.old.walk work.old.flows }

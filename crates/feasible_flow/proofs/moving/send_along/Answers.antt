@@ -6,7 +6,8 @@ use Rattle.std.proofs.Math.Nat.{mul-le-mul_left}
 use Rattle.theory.specs.declared.network.Step.{Step}
 use Rattle.theory.specs.Circuit.{step}
 use Rattle.theory.specs.Sent.{sent}
-use Rattle.painted_search.specs.Room.{Room, count_most}
+use Rattle.theory.specs.Limits.{grounded_nodes_most}
+use Rattle.painted_search.specs.Room.{Room}
 use Rattle.feasible_flow.specs.Violations.{near_most}
 use Rattle.feasible_flow.proofs.Sending.{sends-fits, sent-on, sent-within}
 use Rattle.feasible_flow.proofs.moving.send_along.Goals as goal
@@ -15,10 +16,10 @@ pub send-requires-clause-fits : goal.send-requires-clause-fits
 send-requires-clause-fits c =
     let w = c.loop-k.work in
     let short = w.sized.short_walk in
-    let few = w.sized.few_nodes in
     let same_length = ap length c.loop-k.invariant.same.walk in
+    let same_nodes = c.loop-k.invariant.same.nodes in
     let l : c.loop-k.k < length w.walk = omega (arith, c.loop-k-test.true, c.walk_len-k-end.ensures, same_length) in
-    let within : c.loop-k.k ≤ count_most = omega (arith, l, short, few) in
+    let within : c.loop-k.k ≤ grounded_nodes_most = omega (arith, l, short, same_nodes, c.requires.few) in
     let moved = mul-le-mul_left c.args.amount within in
     sends-fits (2 * near_most + c.loop-k.k * c.args.amount) c.args.amount _ _ (c.loop-k.invariant.near c.walk_step-step.result.arc.0)
     (omega (arith, moved, c.requires.amount_near))

@@ -14,8 +14,7 @@ pub examine-requires-clause-small : goal.examine-requires-clause-small
 examine-requires-clause-small g c =
     relaxing-small (without_bases c.args.self.now.net.now (map g.C.Monotone.items c.args.self.now.curves.now)) c.args.round c.loop-k.k c.args.self.now.net.now.nodes
     c.loop-k.changed c.loop-k.work c.loop-k.invariant.relaxing c.requires.few (omega arith)
-    (omega (arith, c.loop-k.invariant.kept.nodes, c.requires.fits.same_nodes, c.loop-k.work.sized.few_nodes))
-    (omega (arith, c.loop-k.invariant.kept.arcs, c.requires.fits.same_arcs, c.loop-k.work.sized.few_arcs))
+    c.requires.passable.few_nodes c.requires.passable.few_arcs
 
 pub loop-k-preserved : goal.loop-k-preserved
 loop-k-preserved g c =
