@@ -140,7 +140,7 @@ settled-more f g curves k d x are level way none =
     here : (j : ℕ) → j < length g.arcs → violation (level_items k (list_at (map f curves) j)) («at» x j) ≡ 0
     here j l = rw (← levels-at f k curves j (let n = are.one_each in omega arith)) (none j l)
 
-pub settled-near : (g : Graph) (lists : List (List Ext)) (d : ℕ) (x : List ℤ) → length g.arcs ≤ grounded_arcs_most → d ≤ level_most + 1
+pub settled-near : (g : Graph) (lists : List (List Ext)) (d : ℕ) (x : List ℤ) → length g.arcs ≤ closed_arcs_most → d ≤ level_most + 1
     → IsSettled g lists d x → AreNear near_most x
 settled-near g lists d x few less settled j =
     let most = leveled-few (length g.arcs) d few less in
@@ -158,7 +158,7 @@ settled-feasible g lists x settled =
       in_domains = λ j l. rw (without_bases-items g lists j) (inside (list_at lists j) («at» x j) (settled.inside refl j l));
     }
 
-pub settled-numbers : (g : Graph) (lists : List (List Ext)) (x : List ℤ) → length g.arcs ≤ grounded_arcs_most
+pub settled-numbers : (g : Graph) (lists : List (List Ext)) (x : List ℤ) → length g.arcs ≤ closed_arcs_most
     → IsSettled g lists (level_most + 1) x → AreNumbers (length g.arcs) x
 settled-numbers g lists x few settled =
     let most = leveled-few (length g.arcs) (level_most + 1) few (omega arith) in

@@ -160,15 +160,15 @@ fn begins_with_flows_that_will_do(rt: HostRuntime) -> Result<(), Fail> {
         (&small, [7, 7, 7], [5, 5, 5]),
         // What isn't conserved is thrown away.
         (&small, [3, 3, 2], [0, 0, 0]),
-        // The limit of three arcs is 3,000,000 for the greatest flow, and 60 for all that the flows lack together.
+        // The limit of three arcs is 3,000,000,000 for the greatest flow, and 90 for all that the flows lack together.
         (
             &endless,
-            [3_000_000, 3_000_000, 3_000_000],
-            [3_000_000, 3_000_000, 3_000_000],
+            [3_000_000_000, 3_000_000_000, 3_000_000_000],
+            [3_000_000_000, 3_000_000_000, 3_000_000_000],
         ),
-        (&endless, [3_000_001, 3_000_001, 3_000_001], [0, 0, 0]),
-        (&small, [25, 25, 25], [5, 5, 5]),
-        (&small, [26, 26, 26], [0, 0, 0]),
+        (&endless, [3_000_000_001, 3_000_000_001, 3_000_000_001], [0, 0, 0]),
+        (&small, [35, 35, 35], [5, 5, 5]),
+        (&small, [36, 36, 36], [0, 0, 0]),
         (&endless, [i64::MIN, i64::MIN, i64::MIN], [0, 0, 0]),
     ] {
         let (answer, work) = passed::<Brand>(&rt, 3, rows.as_slice(), &drawn, Blank::new(1))?;

@@ -123,6 +123,6 @@ fn a_million_units_take_few_readings(rt: HostRuntime) -> Result<(), Fail> {
     assert!(rt; found == Some(Balanced::InKilter));
     assert_eq!(rt; work.flows(), [1_000_000, -1_000_000, 1_000_000].as_slice());
     let count = readings.get();
-    assert!(rt; 0 < count && count <= 24_192, "{} readings", count);
+    assert!(rt; 0 < count && count <= 35_712, "{} readings", count);
     Ok(())
 }

@@ -45,7 +45,7 @@ fn texts(rt: HostRuntime) -> Result<(), Fail> {
             Err((4, Number)),
         ),
         (
-            b"network 1\nnode s\nnode t\narc a s t 0 1 1000001",
+            b"network 1\nnode s\nnode t\narc a s t 0 1 1000000001",
             Err((4, Limit)),
         ),
         (b"network 1\nnode s\nnode t\narc a s t 0 2", Err((4, Shape))),
@@ -73,19 +73,19 @@ fn texts(rt: HostRuntime) -> Result<(), Fail> {
         ),
         // the first word of several
         (
-            b"network 1\nnode s\nnode t\narc a s t 0 1000001",
+            b"network 1\nnode s\nnode t\narc a s t 0 1000000001",
             Err((4, Limit)),
         ),
         (
-            b"network 1\nnode s\nnode t\narc a s t 0 1000001 x",
+            b"network 1\nnode s\nnode t\narc a s t 0 1000000001 x",
             Err((4, Number)),
         ),
         (
-            b"network 1\nnode s\nnode t\narc a s t 1000001 base",
+            b"network 1\nnode s\nnode t\narc a s t 1000000001 base",
             Err((4, Number)),
         ),
         (
-            b"network 1\nnode s\nnode t\narc a s t 0 base 1000001",
+            b"network 1\nnode s\nnode t\narc a s t 0 base 1000000001",
             Err((4, Limit)),
         ),
         (
@@ -106,13 +106,13 @@ fn texts(rt: HostRuntime) -> Result<(), Fail> {
             Err((2, Limit)),
         ),
         (
-            b"network 1\nnode s -0000000000000000000000000000000001000000",
-            Ok(b"network 1\nnode s -1000000\n"),
+            b"network 1\nnode s -0000000000000000000000000000000001000000000",
+            Ok(b"network 1\nnode s -1000000000\n"),
         ),
         // whole models
         (
-            b"network 1\nnode s\nnode t\narc a s t -1000000 -1000000 0 1000000 1000000",
-            Ok(b"network 1\nnode s 0\nnode t 0\narc a s t -1000000 -1000000 0 1000000 1000000\n"),
+            b"network 1\nnode s\nnode t\narc a s t -1000000000 -1000000000 0 1000000000 1000000000",
+            Ok(b"network 1\nnode s 0\nnode t 0\narc a s t -1000000000 -1000000000 0 1000000000 1000000000\n"),
         ),
         (
             b"# a\n\nnetwork\t1 # \xc3\xa9\r\n\tnode  n +2 03 06 base 10\r\nnode base base -4\narc arc n base -inf 3 inf base +0",
@@ -139,6 +139,6 @@ fn full(rt: HostRuntime) -> Result<(), Fail> {
         text.push(b'\n')?;
     }
     text.extend_from_slice(b"node n0\n")?;
-    assert_eq!(rt; answer(&rt, &text)?.err(), Some((2002, Limit)));
+    assert_eq!(rt; answer(&rt, &text)?.err(), Some((10002, Limit)));
     Ok(())
 }

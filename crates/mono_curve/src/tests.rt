@@ -283,13 +283,13 @@ const FAULTS: [(&[Ext], i128, CurveFault, &str); 6] = [
         "a list of too many items",
     ),
     (
-        &[At(2_000_000), At(1), MinusInf],
+        &[At(2_000_000_000), At(1), MinusInf],
         0,
         CurveFault::Infinite(2),
         "item 2 may not be infinite",
     ),
     (
-        &[At(0), At(-1_000_001), At(0)],
+        &[At(0), At(-1_000_000_001), At(0)],
         LARGE,
         CurveFault::Magnitude(1),
         "item 1 is too large",

@@ -11,8 +11,12 @@ const ONE_PAIR: &[u8] = b"network 1\nnode s -inf 2 +inf\nnode t -5\narc a s t 0 
 /// The arc takes 3 of 5.
 const NARROW: &[u8] = b"network 1\nnode s 5\nnode t -5\narc a s t 0 1 3\n";
 
-/// As much as a supply can bring.
+/// A million units over one arc.
 const LARGE: &[u8] = b"network 1\nnode s 1000000\nnode t -1000000\narc a s t 0 1 1000000\n";
+
+/// As much as a supply can bring.
+const LARGEST: &[u8] =
+    b"network 1\nnode s 1000000000\nnode t -1000000000\narc a s t 0 1 1000000000 base 1000000000\n";
 
 /// Three plants, four shops; the flow is the only optimal one.
 pub(crate) const PLANTS: &[u8] =
@@ -76,14 +80,25 @@ fn certificates(rt: HostRuntime) -> Result<(), Fail> {
 }
 
 #[test]
-fn a_large_flow(rt: HostRuntime) -> Result<(), Fail> {
-    let row = solves(
-        "a large flow",
-        LARGE,
-        0,
-        "certificate 1 optimal\ncost 1000000\nvalue 1000000\nnode s ? 1000000\nnode t ? -1000000\narc a 1000000\n",
-    );
-    compare_and_check(&rt, rt.alloc(), &row, OPTIMAL)
+fn large_flows(rt: HostRuntime) -> Result<(), Fail> {
+    let rows = [
+        solves(
+            "a large flow",
+            LARGE,
+            0,
+            "certificate 1 optimal\ncost 1000000\nvalue 1000000\nnode s ? 1000000\nnode t ? -1000000\narc a 1000000\n",
+        ),
+        solves(
+            "the largest flow",
+            LARGEST,
+            0,
+            "certificate 1 optimal\ncost 2000000000\nvalue 2000000000\nnode s ? 1000000000\nnode t ? -1000000000\narc a 1000000000\n",
+        ),
+    ];
+    for row in &rows {
+        compare_and_check(&rt, rt.alloc(), row, OPTIMAL)?;
+    }
+    Ok(())
 }
 
 #[test]
