@@ -69,5 +69,9 @@ distance PlusInf x = 2 ^ 64 - 1
 abbrev pub near_most : ℕ
 near_most = violation_most count_most
 
+-- flows within this may be moved by no more than this, and what they lack is measured
+abbrev pub movable_most : ℕ
+movable_most = 2 ^ 61
+
 abbrev pub AreNear : ℕ → List ℤ → Type 0
 AreNear most x = (j : ℕ) → IsWithin most («at» x j)
