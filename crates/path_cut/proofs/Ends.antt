@@ -53,7 +53,7 @@ longer-first items list endless =
     (λ (long : 2 < length items). omega arith)
     (λ (short : length items ≤ 2).
     let finite : is_finite (item items 0) ≡ true = list.single_finite (omega (arith, list.odd)) in
-    absurd (false≢true (sym endless ∙ (rw first_at items at finite))))
+    absurd (false≢true (sym endless ∙ (rw (first_at items) at finite))))
     (cases_lt 2 (length items))
 
 pub open-finite : (items : List Ext) (forward : Bool) → IsCurveList items → leading_end items forward ≡ PlusInf
@@ -62,7 +62,7 @@ open-finite items true list endless =
     let none = endless-not_finite (last items) endless in
     let more = longer items list none in
     let is = before_last_at items (length items - 2) (omega arith) in
-    let finite : IsFinite (before_last items) = rw is at (list.inner_finite (length items - 2) (omega arith) (omega arith)) in
+    let finite : IsFinite (before_last items) = rw (is) at (list.inner_finite (length items - 2) (omega arith) (omega arith)) in
     rw none finite
 open-finite items false list endless =
     let none = turned-not_finite (first items) endless in

@@ -103,15 +103,15 @@ lifts-apart : (t : ℕ) (from to : Bool) → from ≡ true → to ≡ false → 
 lifts-apart t from to held lacked = rw (held, lacked) (omega (arith, ints))
 
 pub open-cut : OpenCutLaw
-open-cut net side from to u good from_there to_there potential open bound =
+open-cut net side from to u good from_there to_there potential opens bound =
     let t : ℕ = positive_part (bound -ℤ rise u from to) + 1 in
     let w : List ℤ = tabulated net.nodes (lifted t side u) in
     let is : IsLifted net t side u w =
     record { one_each = length-tabulated net.nodes (lifted t side u); lifts = λ i l. at-tabulated net.nodes i (lifted t side u) l } in
     let feasible = lifted-feasible net t side u w good (omega arith) is potential
-    (λ j l. open-slack (curve net j).items _ (holds side (tail net j)) (holds side (head net j)) t (open.leaving j l) (open.entering j l)) in
+    (λ j l. open-slack (curve net j).items _ (holds side (tail net j)) (holds side (head net j)) t (opens.leaving j l) (opens.entering j l)) in
     let at_from = is.lifts from from_there in
     let at_to = is.lifts to to_there in
     let p = positive_part-is (bound -ℤ rise u from to) in
-    let more = lifts-apart t (holds side from) (holds side to) open.holds_from open.lacks_to in
+    let more = lifts-apart t (holds side from) (holds side to) opens.holds_from opens.lacks_to in
     (w, feasible, omega (arith, ints, clamps))

@@ -34,27 +34,27 @@ beyond z = let p = positive_part-is z in omega (arith, ints, clamps)
 
 -- the circuit of the last arc and an open path
 round-there : (net : Network) (walk : List Step) → HasReturn net → IsOpenPath net walk → WalkIsThere net (over (return_arc net) true ∷ walk)
-round-there net walk returns open zero l = let some = returns.some in omega arith
-round-there net walk returns open (suc k) l = open.path.there k (omega arith)
+round-there net walk returns opens zero l = let some = returns.some in omega arith
+round-there net walk returns opens (suc k) l = opens.path.there k (omega arith)
 
 round-finite : (net : Network) (walk : List Step) → IsNetwork net → HasReturn net → IsOpenPath net walk → (k : ℕ)
     → k < length (over (return_arc net) true ∷ walk) → IsFinite (span_end net (step (over (return_arc net) true ∷ walk) k))
-round-finite net walk good returns open zero l =
+round-finite net walk good returns opens zero l =
     open-finite (curve net (return_arc net)).items true (good.curve_lists (return_arc net) (let some = returns.some in omega arith)) returns.no_upper
-round-finite net walk good returns open (suc k) l =
+round-finite net walk good returns opens (suc k) l =
     let s = step walk k in
-    open-finite (curve net s.arc.0).items s.forward (good.curve_lists s.arc.0 (open.path.there k (omega arith))) (open.endless k (omega arith))
+    open-finite (curve net s.arc.0).items s.forward (good.curve_lists s.arc.0 (opens.path.there k (omega arith))) (opens.endless k (omega arith))
 
 pub open-path : OpenPathLaw
-open-path net walk x good returns flow open bound =
+open-path net walk x good returns flow opens bound =
     let m = return_arc net in
     let some = returns.some in
     let all : List Step = over m true ∷ walk in
     let t : ℕ = positive_part (bound -ℤ «at» x m) + 1 in
     let y : List ℤ = sent_round t all x in
-    let circuit : IsCircuit net all = closed-by net walk m (good.no_loops m (omega arith)) open.path open.others in
-    let there : WalkIsThere net all = round-there net walk returns open in
-    let counts : SpanCounts net all = each-places (λ s. IsFinite (span_end net s)) all (round-finite net walk good returns open) in
+    let circuit : IsCircuit net all = closed-by net walk m (good.no_loops m (omega arith)) opens.path opens.others in
+    let there : WalkIsThere net all = round-there net walk returns opens in
+    let counts : SpanCounts net all = each-places (λ s. IsFinite (span_end net s)) all (round-finite net walk good returns opens) in
     let round = is_sent_round net t all x good flow.one_each there counts flow.in_domains in
     let conserved : IsConserved net («at» y) = λ i l. (
     let still = balanced t (divergence net («at» x) i) (divergence net («at» y) i) (brought net i all)
