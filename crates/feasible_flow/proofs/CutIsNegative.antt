@@ -7,6 +7,7 @@ use Rattle.std.proofs.lemmas.Int.{ints, clamps, by_lt_z}
 use Rattle.std.proofs.lemmas.Bool.{false≢true}
 use Rattle.theory.specs.declared.ext.Ext.{Ext}
 use Rattle.theory.specs.declared.ext.Ext.TheVariants.{MinusInf, At, PlusInf}
+use Rattle.theory.specs.declared.colour.Colour.{Colour}
 use Rattle.theory.specs.declared.network.Step.{Step}
 use Rattle.theory.specs.Sums.{counted}
 use Rattle.theory.specs.Ends.{IsFinite, whole, negated, is_below}
@@ -37,13 +38,13 @@ pub record IsFull (end : Ext) (flow : ℤ) : Type 0 where
   pub finite : IsFinite end
   pub most : whole end ≤ℤ flow
 
-full-above : {low high : Ext} → AreEnds low high → (x : ℤ) → is_below (At x) high ≡ false → IsFull high x
+pub full-above : {low high : Ext} → AreEnds low high → (x : ℤ) → is_below (At x) high ≡ false → IsFull high x
 full-above (both order) x not_below = record { finite = refl; most = omega (arith, ints) }
 full-above from_a_point x not_below = absurd (false≢true (sym not_below))
 full-above to_a_point x not_below = record { finite = refl; most = omega (arith, ints) }
 full-above everywhere x not_below = absurd (false≢true (sym not_below))
 
-full-below : {low high : Ext} → AreEnds low high → (x : ℤ) → is_below low (At x) ≡ false → IsFull (negated low) (neg_ℤ x)
+pub full-below : {low high : Ext} → AreEnds low high → (x : ℤ) → is_below low (At x) ≡ false → IsFull (negated low) (neg_ℤ x)
 full-below (both order) x not_below = record { finite = refl; most = omega (arith, ints) }
 full-below from_a_point x not_below = record { finite = refl; most = omega (arith, ints) }
 full-below to_a_point x not_below = absurd (false≢true (sym not_below))
@@ -69,12 +70,12 @@ record NoneLeaves (items : List Ext) (x : ℤ) (at_tail at_head : Bool) : Type 0
   forward : at_tail ≡ true → at_head ≡ false → IsFree (domain_colour items x) true → ⊥
   backward : at_head ≡ true → at_tail ≡ false → IsFree (domain_colour items x) false → ⊥
 
-shade-up : (up down : Bool) → (IsFree (shade up down) true → ⊥) → up ≡ false
+pub shade-up : (up down : Bool) → (IsFree (shade up down) true → ⊥) → up ≡ false
 shade-up true true never = absurd (never refl)
 shade-up true false never = absurd (never refl)
 shade-up false down never = refl
 
-shade-down : (up down : Bool) → (IsFree (shade up down) false → ⊥) → down ≡ false
+pub shade-down : (up down : Bool) → (IsFree (shade up down) false → ⊥) → down ≡ false
 shade-down true true never = absurd (never refl)
 shade-down false true never = absurd (never refl)
 shade-down up false never = refl
@@ -102,16 +103,17 @@ crossing-lacks items x false true true some tail_in head_out = absurd (false≢t
 
 -- ---- all arcs
 
-cut-full : (g : Graph) (lists : List (List Ext)) (x : List ℤ) (side : List Bool) (from to : ℕ) → AreCurves lists
-    → IsFreeCut (bare g) (painting lists x) side from to → (j : ℕ) → j < length g.arcs
+-- also where the painting is another one on other arcs
+pub cut-full : (g : Graph) (lists : List (List Ext)) (x : List ℤ) (colours : ℕ → Colour) (side : List Bool) (from to : ℕ) → AreCurves lists
+    → IsFreeCut (bare g) colours side from to → (j : ℕ) → j < length g.arcs → colours j ≡ painting lists x j
     → IsFull (cut_end (without_bases g lists) side j) (crossing (without_bases g lists) (holds side) («at» x) j)
-cut-full g lists x side from to curves cut j there =
+cut-full g lists x colours side from to curves cut j there same =
     rw (without_bases-items g lists j)
     (crossing-full (list_at lists j) («at» x j) (holds side (tail (bare g) j)) (holds side (head (bare g) j))
     (list-ends (list_at lists j) (curves.are_lists j))
     (record {
-      forward = λ tail_in head_out free. false≢true (sym head_out ∙ cut.none_leaves (over j true) there free tail_in);
-      backward = λ head_in tail_out free. false≢true (sym tail_out ∙ cut.none_leaves (over j false) there free head_in);
+      forward = λ tail_in head_out free. false≢true (sym head_out ∙ cut.none_leaves (over j true) there (rw same free) tail_in);
+      backward = λ head_in tail_out free. false≢true (sym tail_out ∙ cut.none_leaves (over j false) there (rw same free) head_in);
     }))
 
 cut-lacks : (g : Graph) (lists : List (List Ext)) (x : List ℤ) (side : List Bool) (s : Step)
@@ -142,14 +144,14 @@ pub negative-cut : (g : Graph) (lists : List (List Ext)) (x : List ℤ) (side : 
     → IsNegativeCut (without_bases g lists) side
 negative-cut g lists x side s curves one_each conserved there some cut =
     let net = without_bases g lists in
-    let full = cut-full g lists x side (end_of (bare g) s) (begin_of (bare g) s) curves cut in
+    let full = cut-full g lists x (painting lists x) side (end_of (bare g) s) (begin_of (bare g) s) curves cut in
     let lacks = cut-lacks g lists x side s some cut.holds_from cut.lacks_to in
     let none = cut_law-conserved net (holds side) («at» x) (without_bases-network g lists curves.are_lists one_each) conserved in
     record {
-      counts = λ j l. (full j l).finite;
+      counts = λ j l. (full j l refl).finite;
       negative = less (cut_sum net side) (over_arcs net (crossing net (holds side) («at» x))) none
           (λ above.
           let same = sum_below-equal_terms (length g.arcs) (λ j. whole (cut_end net side j)) (crossing net (holds side) («at» x))
-          (λ j l. (full j l).most) above s.arc.0 there in
+          (λ j l. (full j l refl).most) above s.arc.0 there in
           absurd (omega (arith, ints)));
     }

@@ -7,7 +7,7 @@ use Rattle.std.proofs.lemmas.Bool.{cases_lt}
 use Rattle.theory.specs.declared.ext.Ext.{Ext}
 use Rattle.theory.specs.Sums.{sum_below, counted}
 use Rattle.theory.specs.CurveList.{IsCurveList}
-use Rattle.theory.specs.Limits.{AreWithin, number_most, level_most, closed_arcs_most}
+use Rattle.theory.specs.Limits.{AreWithin, number_most, level_most}
 use Rattle.theory.specs.Network.{«at», tail, head, list_at}
 use Rattle.theory.specs.Conserved.{IsConserved}
 use Rattle.theory.specs.Cut.{IsNegativeCut}
@@ -16,10 +16,10 @@ use Rattle.theory.specs.Certificate.{AreNumbers}
 use Rattle.theory.specs.Views.{level_items}
 use Rattle.theory.proofs.Counting.{total_below-most}
 use Rattle.net_incidence.specs.Graph.{Graph, bare}
-use Rattle.net_incidence.specs.WithoutBases.{IsPassable, without_bases}
+use Rattle.net_incidence.specs.WithoutBases.{IsPassable, passable_arcs_most, without_bases}
 use Rattle.net_incidence.proofs.WithoutBases.{without_bases-items, without_bases-network}
 use Rattle.curve_views.specs.LevelLaws.{LevelCutLaw}
-use Rattle.feasible_flow.specs.Violations.{violation, violation_at, total_violation, near_most, AreNear}
+use Rattle.feasible_flow.specs.Violations.{violation, violation_at, total_violation, near_most, movable_most, AreNear}
 use Rattle.feasible_flow.specs.UnderWay.{IsUnderWay}
 use Rattle.feasible_flow.specs.ByLevels.{levels_of, leveled, flow_limit, IsSettled, WillDo}
 use Rattle.feasible_flow.proofs.OneArc.{inside}
@@ -37,7 +37,7 @@ leveled-grows m d (suc e) l =
     (λ (above : suc e ≤ d). let same : d ≡ suc e = omega arith in rw same (omega arith))
     (cases_lt d (suc e))
 
-leveled-few : (m d : ℕ) → m ≤ closed_arcs_most → d ≤ level_most + 1 → leveled m d ≤ near_most
+leveled-few : (m d : ℕ) → m ≤ passable_arcs_most → d ≤ level_most + 1 → leveled m d ≤ near_most
 leveled-few m d few l =
     let grows = leveled-grows m d (level_most + 1) l in
     omega (arith, grows)
@@ -68,7 +68,7 @@ pub record AreLeveled {A : Type 0} (f : A → List Ext) (g : Graph) (curves : Li
   pub are_lists : (j : ℕ) → IsCurveList (list_at (map f curves) j)
   pub within : (j : ℕ) → AreWithin number_most (list_at (map f curves) j)
   pub one_each : length curves ≡ length g.arcs
-  pub few : length g.arcs ≤ closed_arcs_most
+  pub few : length g.arcs ≤ passable_arcs_most
 
 pub leveled-curves : {A : Type 0} (f : A → List Ext) → ((a : A) → IsCurveList (f a)) → ((a : A) → AreWithin number_most (f a)) → (g : Graph)
     (curves : List A) → IsPassable g (length curves) → AreLeveled f g curves
@@ -140,8 +140,8 @@ settled-more f g curves k d x are level way none =
     here : (j : ℕ) → j < length g.arcs → violation (level_items k (list_at (map f curves) j)) («at» x j) ≡ 0
     here j l = rw (← levels-at f k curves j (let n = are.one_each in omega arith)) (none j l)
 
-pub settled-near : (g : Graph) (lists : List (List Ext)) (d : ℕ) (x : List ℤ) → length g.arcs ≤ closed_arcs_most → d ≤ level_most + 1
-    → IsSettled g lists d x → AreNear near_most x
+pub settled-near : (g : Graph) (lists : List (List Ext)) (d : ℕ) (x : List ℤ) → length g.arcs ≤ passable_arcs_most → d ≤ level_most + 1
+    → IsSettled g lists d x → AreNear movable_most x
 settled-near g lists d x few less settled j =
     let most = leveled-few (length g.arcs) d few less in
     let small = settled.small j in
@@ -158,7 +158,7 @@ settled-feasible g lists x settled =
       in_domains = λ j l. rw (without_bases-items g lists j) (inside (list_at lists j) («at» x j) (settled.inside refl j l));
     }
 
-pub settled-numbers : (g : Graph) (lists : List (List Ext)) (x : List ℤ) → length g.arcs ≤ closed_arcs_most
+pub settled-numbers : (g : Graph) (lists : List (List Ext)) (x : List ℤ) → length g.arcs ≤ passable_arcs_most
     → IsSettled g lists (level_most + 1) x → AreNumbers (length g.arcs) x
 settled-numbers g lists x few settled =
     let most = leveled-few (length g.arcs) (level_most + 1) few (omega arith) in

@@ -54,16 +54,13 @@ passes-elsewhere g lists x walk s k there some path l same =
     turned w.forward s.forward (λ forward. elsewhere (sym (same-begin (bare g) s w (sym same) forward))) in
     need-not_free (list_at lists s.arc.0) («at» x s.arc.0) s.forward w.forward some other (rw same (path.free k l))
 
-pub closes : (g : Graph) (lists : List (List Ext)) (x : List ℤ) (walk : List Step) (s : Step) → s.arc.0 < length g.arcs
-    → 1 ≤ needed (list_at lists s.arc.0) («at» x s.arc.0) s.forward
-    → IsFreePath (bare g) (painting lists x) walk (end_of (bare g) s) (begin_of (bare g) s)
-    → IsCircuit (bare g) (s ∷ walk)
-closes g lists x walk s there some path =
+-- a path from the end of a step back to its beginning, over other arcs, closes a circuit
+pub closes-path : (net : Network) (colours : ℕ → Colour) (walk : List Step) (s : Step) → end_of net s ≢ begin_of net s
+    → ((k : ℕ) → k < length walk → s.arc.0 ≢ (step walk k).arc.0) → IsFreePath net colours walk (end_of net s) (begin_of net s)
+    → IsCircuit net (s ∷ walk)
+closes-path net colours walk s apart elsewhere path =
     record { not_empty = omega arith; joined = joined; closed = closed; nodes_differ = nodes_differ; arcs_differ = arcs_differ }
   where
-    net : Network
-    net = bare g
-
     joined : (k : ℕ) → k + 1 < length (s ∷ walk) → end_of net (step (s ∷ walk) k) ≡ begin_of net (step (s ∷ walk) (k + 1))
     joined zero l = sym path.begins
     joined (suc k) l = let e : suc k + 1 ≡ suc (k + 1) = omega arith in rw e (path.joined k (omega arith))
@@ -74,11 +71,17 @@ closes g lists x walk s there some path =
 
     nodes_differ : (i k : ℕ) → i < k → k < length (s ∷ walk) → begin_of net (step (s ∷ walk) i) ≢ begin_of net (step (s ∷ walk) k)
     nodes_differ i zero l h = absurd (omega arith)
-    nodes_differ zero (suc k) l h =
-        begins-elsewhere net (painting lists x) walk (end_of net s) (begin_of net s) k (ends-apart g s there) path (omega arith)
+    nodes_differ zero (suc k) l h = begins-elsewhere net colours walk (end_of net s) (begin_of net s) k apart path (omega arith)
     nodes_differ (suc i) (suc k) l h = path.begins_differ i k (omega arith) (omega arith)
 
     arcs_differ : (i k : ℕ) → i < k → k < length (s ∷ walk) → (step (s ∷ walk) i).arc.0 ≢ (step (s ∷ walk) k).arc.0
     arcs_differ i zero l h = absurd (omega arith)
-    arcs_differ zero (suc k) l h = passes-elsewhere g lists x walk s k there some path (omega arith)
+    arcs_differ zero (suc k) l h = elsewhere k (omega arith)
     arcs_differ (suc i) (suc k) l h = path.arcs_differ i k (omega arith) (omega arith)
+
+pub closes : (g : Graph) (lists : List (List Ext)) (x : List ℤ) (walk : List Step) (s : Step) → s.arc.0 < length g.arcs
+    → 1 ≤ needed (list_at lists s.arc.0) («at» x s.arc.0) s.forward
+    → IsFreePath (bare g) (painting lists x) walk (end_of (bare g) s) (begin_of (bare g) s)
+    → IsCircuit (bare g) (s ∷ walk)
+closes g lists x walk s there some path =
+    closes-path (bare g) (painting lists x) walk s (ends-apart g s there) (λ k l. passes-elsewhere g lists x walk s k there some path l) path

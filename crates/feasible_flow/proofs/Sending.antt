@@ -14,10 +14,11 @@ use Rattle.theory.specs.Network.{Network, «at», curve}
 use Rattle.theory.specs.Conserved.{divergence}
 use Rattle.theory.specs.Circuit.{step, WalkIsThere, span_end}
 use Rattle.theory.proofs.Shape.{place_of_shape, long, ends}
-use Rattle.theory.proofs.Bounds.{within_more, within_sum, within_fits64}
+use Rattle.theory.proofs.Bounds.{within_sum, within_fits64}
 use Rattle.theory.proofs.Unbounded.{brought, is_sent_round}
 use Rattle.theory.specs.Sent.{sends, sent, sent_round}
 use Rattle.net_incidence.specs.Graph.{Graph, bare, network}
+use Rattle.feasible_flow.specs.UnderWay.{ArcsDiffer}
 use Rattle.net_incidence.proofs.Networks.{net_is_network}
 use Rattle.net_incidence.proofs.SumParts.{each-places}
 
@@ -56,15 +57,15 @@ pub length-sent : (t : ℕ) (walk : List Step) (x : List ℤ) → length (sent_r
 length-sent t [] x = refl
 length-sent t (s ∷ walk) x = length-sent t walk (sent t s x) ∙ length-set x s.arc.0 («at» x s.arc.0 +ℤ sends t s.forward)
 
+pub sent-elsewhere_one : (t : ℕ) (s : Step) (x : List ℤ) (j : ℕ) → j ≢ s.arc.0 → «at» (sent t s x) j ≡ «at» x j
+sent-elsewhere_one t s x j apart = get_or-set_other x s.arc.0 j («at» x s.arc.0 +ℤ sends t s.forward) (pos 0) apart
+
 pub sent-elsewhere : (t : ℕ) (walk : List Step) (x : List ℤ) (j : ℕ) → ((k : ℕ) → k < length walk → j ≢ (step walk k).arc.0)
     → «at» (sent_round t walk x) j ≡ «at» x j
 sent-elsewhere t [] x j apart = refl
 sent-elsewhere t (s ∷ walk) x j apart =
     sent-elsewhere t walk (sent t s x) j (λ k l. apart (suc k) (omega arith))
-    ∙ get_or-set_other x s.arc.0 j («at» x s.arc.0 +ℤ sends t s.forward) (pos 0) (apart 0 (omega arith))
-
-abbrev pub ArcsDiffer : List Step → Type 0
-ArcsDiffer walk = (i k : ℕ) → i < k → k < length walk → (step walk i).arc.0 ≢ (step walk k).arc.0
+    ∙ sent-elsewhere_one t s x j (apart 0 (omega arith))
 
 pub sent-here : (t : ℕ) (walk : List Step) (x : List ℤ) (k : ℕ) → ArcsDiffer walk → k < length walk → (step walk k).arc.0 < length x
     → «at» (sent_round t walk x) (step walk k).arc.0 ≡ «at» x (step walk k).arc.0 +ℤ sends t (step walk k).forward
@@ -115,16 +116,3 @@ sends-within t false = (omega (arith, ints), omega (arith, ints))
 pub sends-fits : (n t : ℕ) (z : ℤ) (forward : Bool) → IsWithin n z → n + t < 2 ^ 63 → FitsSigned w64 (z +ℤ sends t forward)
 sends-fits n t z forward near small =
     within_fits64 (n + t) (z +ℤ sends t forward) (within_sum n t z (sends t forward) near (sends-within t forward)) small
-
-pub sent-within : (n more t : ℕ) (s : Step) (x : List ℤ) → s.arc.0 < length x → n + t ≤ more → ((j : ℕ) → IsWithin n («at» x j)) → (j : ℕ)
-    → IsWithin more («at» (sent t s x) j)
-sent-within n more t s x there enough near j =
-    within_more (n + t) more («at» (sent t s x) j) enough
-    (⊎_elim
-    (λ (here : j ≡ s.arc.0).
-    rw (here, get_or-set_same x s.arc.0 («at» x s.arc.0 +ℤ sends t s.forward) (pos 0) there)
-    (within_sum n t («at» x s.arc.0) (sends t s.forward) (near s.arc.0) (sends-within t s.forward)))
-    (λ (apart : j ≡ s.arc.0 → ⊥).
-    rw (get_or-set_other x s.arc.0 j («at» x s.arc.0 +ℤ sends t s.forward) (pos 0) apart)
-    (within_more n (n + t) («at» x j) (omega arith) (near j)))
-    (cases_eq j s.arc.0))

@@ -20,7 +20,7 @@ use Rattle.net_incidence.specs.Graph.{Graph, bare}
 use Rattle.painted_search.specs.Path.{IsFreePath}
 use Rattle.theory.proofs.Counting.{total_below-order, total_below-term}
 use Rattle.feasible_flow.specs.Painting.{painting}
-use Rattle.feasible_flow.specs.Violations.{IsNeed, violation, violation_at, total_violation, needed, HasRoom, near_most, AreNear}
+use Rattle.feasible_flow.specs.Violations.{IsNeed, violation, violation_at, total_violation, needed, HasRoom, movable_most, AreNear}
 use Rattle.feasible_flow.specs.UnderWay.{IsUnderWay, AreNoFurther, IsNearer, AllHaveRoom}
 use Rattle.feasible_flow.proofs.OneArc.{violation-no_further, violation-falls, need-room, needed-most}
 use Rattle.feasible_flow.proofs.Lists.{AreCurves}
@@ -190,7 +190,7 @@ total-within g lists bound x way = let h = way.high 0 in let l = way.low 0 in om
 pub flow-within : (g : Graph) (lists : List (List Ext)) (bound : ℕ) (x : List ℤ) → IsUnderWay g lists bound x → AreNear bound x
 flow-within g lists bound x way j = let h = way.high j in let l = way.low j in (omega (arith, ints), omega (arith, ints))
 
-pub flow-near : (g : Graph) (lists : List (List Ext)) (bound : ℕ) (x : List ℤ) → IsUnderWay g lists bound x → AreNear near_most x
+pub flow-near : (g : Graph) (lists : List (List Ext)) (bound : ℕ) (x : List ℤ) → IsUnderWay g lists bound x → AreNear movable_most x
 flow-near g lists bound x way j =
     let within = flow-within g lists bound x way j in
     let few = way.few in

@@ -1,6 +1,6 @@
 -- Flows on the way to their domains: conserved, and none further from 0 than a bound less all that is still lacking. Each unit
 -- that the violations fall by moves a flow by a unit at most.
-use Rattle.std.specs.Prelude.{◌≡◌, ℕ, ◌+◌, ◌*◌, ◌≤◌, ◌<◌, ℤ, pos, ◌+ℤ◌, ◌≤ℤ◌, List, length}
+use Rattle.std.specs.Prelude.{◌≡◌, ◌≢◌, ℕ, ◌+◌, ◌*◌, ◌≤◌, ◌<◌, ℤ, pos, ◌+ℤ◌, ◌≤ℤ◌, List, length}
 use Rattle.theory.specs.declared.ext.Ext.{Ext}
 use Rattle.theory.specs.declared.network.Step.{Step}
 use Rattle.theory.specs.Network.{«at», list_at}
@@ -31,6 +31,10 @@ pub record IsNearer (g : Graph) (lists : List (List Ext)) (bound : ℕ) (x y : L
 abbrev pub AllHaveRoom : List (List Ext) → List ℤ → List Step → ℕ → Type 0
 AllHaveRoom lists x walk amount =
     (k : ℕ) → k < length walk → HasRoom (list_at lists (step walk k).arc.0) («at» x (step walk k).arc.0) (step walk k).forward amount
+
+-- the walk passes no arc twice
+abbrev pub ArcsDiffer : List Step → Type 0
+ArcsDiffer walk = (i k : ℕ) → i < k → k < length walk → (step walk i).arc.0 ≢ (step walk k).arc.0
 
 -- ---- a room whose flows alone were written
 

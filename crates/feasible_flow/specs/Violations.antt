@@ -5,8 +5,9 @@ use Rattle.theory.specs.declared.ext.Ext.TheVariants.{MinusInf, At, PlusInf}
 use Rattle.theory.specs.Sums.{positive_part, total_below}
 use Rattle.theory.specs.Ends.{IsAtLeast, IsAtMost}
 use Rattle.theory.specs.CurveList.{first, last}
-use Rattle.theory.specs.Limits.{number_most, level_most, closed_arcs_most, IsWithin}
+use Rattle.theory.specs.Limits.{number_most, IsWithin}
 use Rattle.theory.specs.Network.{«at», list_at}
+use Rattle.painted_search.specs.Room.{count_most}
 use Rattle.feasible_flow.specs.declared.domains.Need.{Need}
 
 -- how far a flow is below the lower end, and above the upper end
@@ -64,10 +65,13 @@ distance PlusInf x = 2 ^ 64 - 1
 
 -- ---- ranges
 
--- No flow is further from 0 on the way, since each arc lacks at most 1 at the top level and all lack at most the arcs' count at each
--- further one; so much moved once for each node still fits 64 bits.
+-- flows within this and what they lack fit 64 bits together: no flow is further from 0 on the way
 abbrev pub near_most : ℕ
-near_most = closed_arcs_most * 2 ^ (level_most + 1)
+near_most = violation_most count_most
+
+-- flows within this may be moved by no more than this, and what they lack is measured
+abbrev pub movable_most : ℕ
+movable_most = 2 ^ 61
 
 abbrev pub AreNear : ℕ → List ℤ → Type 0
 AreNear most x = (j : ℕ) → IsWithin most («at» x j)

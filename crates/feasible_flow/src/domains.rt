@@ -9,7 +9,7 @@ ghost use Rattle.theory.specs.Circuit.{step};
 ghost use Rattle.painted_search.specs.Path.{IsFreeStep, AllFree};
 ghost use Rattle.feasible_flow.specs.Painting.{shade, painting};
 ghost use Rattle.theory.specs.Network.{list_at};
-ghost use Rattle.feasible_flow.specs.Violations.{missing, surplus, distance, near_most, IsNeedOf, HasRoom, AreNear};
+ghost use Rattle.feasible_flow.specs.Violations.{missing, surplus, distance, movable_most, IsNeedOf, HasRoom, AreNear};
 ghost use Rattle.feasible_flow.specs.UnderWay.{AllHaveRoom, look_cost};
 ghost use Rattle.feasible_flow.specs.ByLevels.{levels_of};
 
@@ -72,7 +72,7 @@ impl<'a, C: Monotone> Domains<'a, C> {
         requires there { arc.0 < length self.now.curves.now }
         requires one_each { length work.now.flows ≡ length self.now.curves.now }
         requires light { All (λ c. C.weight c ≡ 1) self.now.curves.now }
-        requires near { AreNear near_most work.now.flows }
+        requires near { AreNear movable_most work.now.flows }
         ensures need { IsNeedOf (levels_of C.items self.now.level self.now.curves.now) work.now.flows arc.0 result }
         ensures no_fewer { steps.old ≤ steps.new }
         ensures count { steps.new ≤ steps.old + look_cost }
@@ -108,7 +108,7 @@ impl<'a, C: Monotone> Domains<'a, C> {
     ) -> u64
         requires one_each { length work.now.flows ≡ length self.now.curves.now }
         requires light { All (λ c. C.weight c ≡ 1) self.now.curves.now }
-        requires near { AreNear near_most work.now.flows }
+        requires near { AreNear movable_most work.now.flows }
         requires there { (k : ℕ) → k < length work.now.walk → (step work.now.walk k).arc.0 < length self.now.curves.now }
         requires free { AllFree (painting (levels_of C.items self.now.level self.now.curves.now) work.now.flows) work.now.walk }
         requires some { 1 ≤ amount }
@@ -130,7 +130,7 @@ impl<'a, C: Monotone> Domains<'a, C> {
         requires there { step.arc.0 < length self.now.curves.now }
         requires one_each { length work.now.flows ≡ length self.now.curves.now }
         requires light { All (λ c. C.weight c ≡ 1) self.now.curves.now }
-        requires near { AreNear near_most work.now.flows }
+        requires near { AreNear movable_most work.now.flows }
         requires free { IsFreeStep (painting (levels_of C.items self.now.level self.now.curves.now) work.now.flows) step }
         ensures some { 1 ≤ result }
         ensures room { (amount : ℕ) → amount ≤ result
@@ -150,7 +150,8 @@ fn end_ahead(low: Ext, high: Ext, forward: bool) -> Ext
     if forward { high } else { low }
 }
 
-fn shade(up: bool, down: bool) -> Colour
+/// The colour of an arc that may be passed forward, backward, both or neither.
+pub fn shade(up: bool, down: bool) -> Colour
     ensures { result ≡ shade up down }
 {
     match (up, down) {
@@ -170,7 +171,7 @@ fn is_below(end: Ext, other: Ext) -> bool
 /// How far the flow is below the lower end.
 pub(crate) fn missing(end: Ext, flow: i64) -> u64
     requires end_within { IsWithin number_most (whole end) }
-    requires flow_near { IsWithin near_most flow }
+    requires flow_near { IsWithin movable_most flow }
     ensures { result ≡ missing end flow }
 {
     match end {
@@ -182,7 +183,7 @@ pub(crate) fn missing(end: Ext, flow: i64) -> u64
 /// How far the flow is above the upper end.
 pub(crate) fn surplus(end: Ext, flow: i64) -> u64
     requires end_within { IsWithin number_most (whole end) }
-    requires flow_near { IsWithin near_most flow }
+    requires flow_near { IsWithin movable_most flow }
     ensures { result ≡ surplus end flow }
 {
     match end {
@@ -192,9 +193,9 @@ pub(crate) fn surplus(end: Ext, flow: i64) -> u64
 }
 
 /// How far the flow is from the end, on either side; an infinite end is further than any flow.
-fn distance(end: Ext, flow: i64) -> u64
+pub fn distance(end: Ext, flow: i64) -> u64
     requires end_within { IsWithin number_most (whole end) }
-    requires flow_near { IsWithin near_most flow }
+    requires flow_near { IsWithin movable_most flow }
     ensures { result ≡ distance end flow }
 {
     match end {

@@ -12,6 +12,8 @@ mod passing;
 mod settling;
 mod starting;
 
+pub use domains::{distance, shade};
+pub use moving::send_around;
 pub use passing::{FlowAns, feasible_flow};
 
 #[cfg(test)]

@@ -1,13 +1,13 @@
 // Moving flow along steps.
 ghost use Rattle.std.specs.Prelude.{◌≡◌, ℕ, ◌*◌, ◌^◌, ◌<◌, ◌≤◌, pos, ◌+ℤ◌, FitsSigned, ◌∷◌, length};
 ghost use Rattle.std.specs.Int.{w64};
-ghost use Rattle.theory.specs.Limits.{grounded_nodes_most};
+ghost use Rattle.theory.specs.Limits.{IsWithin};
 ghost use Rattle.theory.specs.Network.{«at»};
 ghost use Rattle.theory.specs.Circuit.{step as step_of};
 ghost use Rattle.theory.specs.Sent.{sends, sent, sent_round};
 ghost use Rattle.painted_search.specs.Writes.{with_flow};
-ghost use Rattle.feasible_flow.specs.Violations.{near_most, AreNear};
-ghost use Rattle.feasible_flow.specs.UnderWay.{IsSameButFlows};
+ghost use Rattle.feasible_flow.specs.Violations.{movable_most, AreNear};
+ghost use Rattle.feasible_flow.specs.UnderWay.{ArcsDiffer, IsSameButFlows};
 ghost use Rattle.feasible_flow.specs.ByLevels.{IsDoubled};
 
 use net_incidence::{ArcId, Step};
@@ -25,7 +25,7 @@ pub(crate) fn clear_flows(work: &mut Work)
 
 /// Every flow becomes twice as great.
 pub(crate) fn double_flows(work: &mut Work)
-    requires { AreNear near_most work.old.flows }
+    requires { AreNear movable_most work.old.flows }
     ensures { IsDoubled work.old work.new }
 {
     for j in 0..work.arcs() {
@@ -36,12 +36,12 @@ pub(crate) fn double_flows(work: &mut Work)
 }
 
 /// Moves the amount over the step and along the walk.
-pub(crate) fn send_around(work: &mut Work, step: Step, amount: u64)
+pub fn send_around(work: &mut Work, step: Step, amount: u64)
     requires step_there { step.arc.0 < work.old.arcs }
     requires walk_there { (k : ℕ) → k < length work.old.walk → (step_of work.old.walk k).arc.0 < work.old.arcs }
-    requires few { work.old.nodes ≤ grounded_nodes_most }
-    requires near { AreNear near_most work.old.flows }
-    requires amount_near { amount ≤ near_most }
+    requires arcs_differ { ArcsDiffer (step ∷ work.old.walk) }
+    requires near { AreNear movable_most work.old.flows }
+    requires amount_near { amount ≤ movable_most }
     ensures flows { work.new.flows ≡ sent_round amount (step ∷ work.old.walk) work.old.flows }
     ensures same { IsSameButFlows work.old work.new }
 {
@@ -52,9 +52,9 @@ pub(crate) fn send_around(work: &mut Work, step: Step, amount: u64)
 /// Moves the amount along the walk.
 fn send_along(work: &mut Work, amount: u64)
     requires there { (k : ℕ) → k < length work.old.walk → (step_of work.old.walk k).arc.0 < work.old.arcs }
-    requires few { work.old.nodes ≤ grounded_nodes_most }
-    requires near { AreNear (2 * near_most) work.old.flows }
-    requires amount_near { amount ≤ near_most }
+    requires arcs_differ { ArcsDiffer work.old.walk }
+    requires near { (k : ℕ) → k < length work.old.walk → IsWithin movable_most («at» work.old.flows (step_of work.old.walk k).arc.0) }
+    requires amount_near { amount ≤ movable_most }
     ensures flows { work.new.flows ≡ sent_round amount work.old.walk work.old.flows }
     ensures same { IsSameButFlows work.old work.new }
 {

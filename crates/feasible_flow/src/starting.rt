@@ -8,7 +8,7 @@ ghost use Rattle.net_incidence.specs.Graph.{bare};
 ghost use Rattle.painted_search.specs.Fits.{Fits};
 ghost use Rattle.painted_search.specs.Room.{count_most};
 ghost use Rattle.net_incidence.specs.WithoutBases.{IsPassable};
-ghost use Rattle.feasible_flow.specs.Violations.{violation_at, total_violation, near_most, AreNear};
+ghost use Rattle.feasible_flow.specs.Violations.{violation_at, total_violation, movable_most, AreNear};
 ghost use Rattle.feasible_flow.specs.UnderWay.{look_cost};
 ghost use Rattle.feasible_flow.specs.ByLevels.{levels_of, WillDo};
 
@@ -42,7 +42,7 @@ impl<'a, C: Monotone> Domains<'a, C> {
     fn lack_at_most<L: Ledger>(&self, amount: u64, work: &Work, steps: &mut Steps<L>) -> bool
         requires one_each { length work.now.flows ≡ length self.now.curves.now }
         requires light { All (λ c. C.weight c ≡ 1) self.now.curves.now }
-        requires near { AreNear near_most work.now.flows }
+        requires near { AreNear movable_most work.now.flows }
         ensures answer { IsTrue result ↔ (total_violation (length self.now.curves.now) (levels_of C.items self.now.level self.now.curves.now)
             work.now.flows ≤ amount) }
         ensures no_fewer { steps.old ≤ steps.new }
@@ -64,7 +64,7 @@ impl<'a, C: Monotone> Domains<'a, C> {
         requires there { arc.0 < length self.now.curves.now }
         requires one_each { length work.now.flows ≡ length self.now.curves.now }
         requires light { All (λ c. C.weight c ≡ 1) self.now.curves.now }
-        requires near { AreNear near_most work.now.flows }
+        requires near { AreNear movable_most work.now.flows }
         ensures value { result ≡ violation_at (levels_of C.items self.now.level self.now.curves.now) work.now.flows arc.0 }
         ensures no_fewer { steps.old ≤ steps.new }
         ensures count { steps.new ≤ steps.old + look_cost }

@@ -6,7 +6,8 @@ use Rattle.std.proofs.lemmas.Int.{ints}
 use Rattle.std.proofs.Math.Nat.{mul-le-mul_right}
 use Rattle.theory.specs.declared.network.NodeId.{NodeId}
 use Rattle.theory.specs.declared.network.Step.{Step}
-use Rattle.theory.specs.Limits.{number_most, grounded_nodes_most, closed_arcs_most}
+use Rattle.theory.specs.Limits.{number_most, grounded_nodes_most}
+use Rattle.net_incidence.specs.WithoutBases.{passable_arcs_most}
 use Rattle.theory.specs.Network.{Network, «at»}
 use Rattle.theory.specs.Circuit.{begin_of}
 use Rattle.net_incidence.specs.FlowAlong.{AreSmall}
@@ -69,7 +70,7 @@ all-held net r c w before none j there = before.held none j there (place-there r
 
 -- ---- numbers stay small
 
-pub clock-most : (r k m n : ℕ) → r < n → k < m → n ≤ grounded_nodes_most → m ≤ closed_arcs_most → r * m + k ≤ 10 ^ 9
+pub clock-most : (r k m n : ℕ) → r < n → k < m → n ≤ grounded_nodes_most → m ≤ passable_arcs_most → r * m + k ≤ 10 ^ 9
 clock-most r k m n round turn few_nodes few_arcs =
     let rounds = mul-le-mul_right {m = suc r} {n = n} m (omega arith) in
     let nodes = mul-le-mul_right {m = n} {n = grounded_nodes_most} m few_nodes in
@@ -84,7 +85,7 @@ small-between u most few high low = record {
 }
 
 pub relaxing-small : (net : Network) (r k n : ℕ) (c : Option NodeId) (w : Room) → IsRelaxing net r k c w → r < n → k < length net.arcs
-    → n ≤ grounded_nodes_most → length net.arcs ≤ closed_arcs_most → AreSmall w.potentials
+    → n ≤ grounded_nodes_most → length net.arcs ≤ passable_arcs_most → AreSmall w.potentials
 relaxing-small net r k n c w before round turn few_nodes few_arcs =
     let clock = clock-most r k (length net.arcs) n round turn few_nodes few_arcs in
     small-between w.potentials ((r * length net.arcs + k) * number_most) (omega arith) before.high (λ i l. before.low i)

@@ -15,7 +15,7 @@ use Rattle.std.proofs.Math.Pow.{pow_mono}
 use Rattle.theory.specs.declared.ext.Ext.{Ext}
 use Rattle.theory.specs.Sums.{counted, positive_part}
 use Rattle.theory.specs.CurveList.{IsCurveList}
-use Rattle.theory.specs.Limits.{IsWithin, AreWithin, number_most, flow_most, level_most, grounded_nodes_most, grounded_arcs_most}
+use Rattle.theory.specs.Limits.{IsWithin, AreWithin, number_most, flow_most, level_most, grounded_nodes_most}
 use Rattle.theory.specs.Span.{InSpan}
 use Rattle.theory.specs.OnCurve.{IsOnCurve}
 use Rattle.theory.specs.Views.{level_items}
@@ -30,7 +30,7 @@ use Rattle.theory.proofs.Level.{level-zero}
 use Rattle.theory.proofs.SumsBelow.{sum_below-zero, sum_below-same, sum_below-add, counted-zero, counted-add}
 use Rattle.theory.proofs.Counting.{total_below-order, total_below-zero, total_below-most}
 use Rattle.net_incidence.specs.Graph.{Graph, bare}
-use Rattle.net_incidence.specs.WithoutBases.{without_bases, IsPassable}
+use Rattle.net_incidence.specs.WithoutBases.{without_bases, passable_arcs_most, IsPassable}
 use Rattle.net_incidence.proofs.WithoutBases.{without_bases-items, without_bases-network}
 use Rattle.painted_search.specs.Room.{Room}
 use Rattle.painted_search.specs.Fits.{Fits}
@@ -65,11 +65,11 @@ leveled_flow-is m (suc d) =
     let power : 2 ^ suc d ≡ 2 * 2 ^ d = omega arith in
     rw power (omega arith)
 
-pub leveled_flow-most : (m d : ℕ) → m ≤ grounded_arcs_most → d ≤ level_most + 1 → leveled_flow m d ≤ flow_most
+pub leveled_flow-most : (m d : ℕ) → m ≤ passable_arcs_most → d ≤ level_most + 1 → leveled_flow m d ≤ flow_most
 leveled_flow-most m d few deep =
     let is = leveled_flow-is m d in
     let power : 2 ^ d ≤ 2 ^ (level_most + 1) = pow_mono deep in
-    let wide : m + 1 ≤ grounded_arcs_most + 1 = omega arith in
+    let wide : m + 1 ≤ passable_arcs_most + 1 = omega arith in
     let a = mul-le-mul_left (m + 1) power in
     let b = mul-le-mul_left (2 ^ (level_most + 1)) wide in
     omega arith
@@ -155,7 +155,7 @@ pub record IsLevelStep (g : Graph) (lists levels : List (List Ext)) (d k : ℕ) 
   pub level : k + d ≡ level_most
   pub one_list_each : length levels ≡ length g.arcs
   pub at_level : (j : ℕ) → j < length g.arcs → list_at levels j ≡ level_items k (list_at lists j)
-  pub few_arcs : length g.arcs ≤ grounded_arcs_most
+  pub few_arcs : length g.arcs ≤ passable_arcs_most
   pub few_nodes : g.nodes ≤ grounded_nodes_most
   pub leveled : IsLeveled g lists level_most d v
   pub doubled : IsDoubledBelow v.arcs v b
@@ -174,7 +174,7 @@ level-step items g curves others d k v b same level passable leveled doubled = r
   doubled = doubled;
 }
 
-pub leveled-far : (g : Graph) (lists : List (List Ext)) (d : ℕ) (v : Room) → length g.arcs ≤ grounded_arcs_most → d ≤ level_most
+pub leveled-far : (g : Graph) (lists : List (List Ext)) (d : ℕ) (v : Room) → length g.arcs ≤ passable_arcs_most → d ≤ level_most
     → IsLeveled g lists level_most d v → (j : ℕ) → IsWithin far_most («at» v.flows j)
 leveled-far g lists d v few deep leveled j =
     let x = leveled.flows j in

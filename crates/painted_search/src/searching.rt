@@ -42,6 +42,7 @@ pub fn search<P: Painter, L: Ledger>(
         → IsFreeCut (bare net.now) (P.paint painter.now work.old.flows work.old.potentials) work.new.reached from.0 to.0 }
     ensures grown { result ≡ Found.Cut
         → IsGrowth (bare net.now) (P.paint painter.now work.old.flows work.old.potentials) work.new.reached work.new.walk from.0 }
+    ensures short { result ≡ Found.Cut → length work.new.walk + 2 ≤ net.now.nodes }
     ensures labels { AreLabelsOf work.new.labels work.new.reached from.0 }
     ensures flows { work.new.flows ≡ work.old.flows }
     ensures potentials { work.new.potentials ≡ work.old.potentials }

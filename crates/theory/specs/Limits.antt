@@ -21,10 +21,6 @@ grounded_nodes_most = nodes_most + 1
 abbrev pub grounded_arcs_most : ℕ
 grounded_arcs_most = nodes_most + arcs_most
 
--- of what a pass takes: one arc more, which may close the network
-abbrev pub closed_arcs_most : ℕ
-closed_arcs_most = grounded_arcs_most + 1
-
 -- the most items of a curve list
 abbrev pub list_most : ℕ
 list_most = 4001

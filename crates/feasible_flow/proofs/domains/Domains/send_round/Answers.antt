@@ -7,6 +7,7 @@ use Rattle.theory.specs.Sent.{sent_round}
 use Rattle.feasible_flow.specs.ByLevels.{levels_of, flow_limit}
 use Rattle.feasible_flow.proofs.Lists.{level-curves}
 use Rattle.feasible_flow.proofs.ViolationFalls.{nearer-sent, need-within}
+use Rattle.feasible_flow.proofs.PathClosesCircuit.{closes}
 use Rattle.feasible_flow.proofs.CutIsNegative.{negative-cut}
 use Rattle.feasible_flow.proofs.domains.Domains.send_round.Goals as goal
 
@@ -17,6 +18,14 @@ send_around-requires-clause-amount_near g c =
     let few = need-within c.args.net.now lists (flow_limit (length c.args.net.now.arcs) c.args.self.now.level) c.args.work.now.flows s.arc.0
     c.args.need.amount c.room_along-amount.result s.forward c.requires.under_way c.requires.there c.requires.need c.room_along-amount.ensures.most in
     omega (arith, few, c.requires.under_way.few)
+
+pub send_around-requires-clause-arcs_differ : goal.send_around-requires-clause-arcs_differ
+send_around-requires-clause-arcs_differ g c =
+    let k = c.args.self.now.level in
+    let s = c.args.need.step in
+    (closes c.args.net.now (levels_of g.C.Monotone.items k c.args.self.now.curves.now) c.args.work.now.flows c.search.new.work.walk s
+    c.requires.there (omega (arith, c.requires.need.some, c.requires.need.exact))
+    (rw (← c.end-from.ensures, ← c.begin-to.ensures) (c.search.ensures.path c.in-Path.is))).arcs_differ
 
 pub returns-in-Cut-clause-cut : goal.returns-in-Cut-clause-cut
 returns-in-Cut-clause-cut g c found =

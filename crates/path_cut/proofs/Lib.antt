@@ -1,0 +1,9 @@
+-- One end, and one arc:
+pub mod Ends
+pub mod Walks
+-- Laws of flows:
+pub mod FlowBound
+pub mod OpenPath
+-- Laws of tensions:
+pub mod TensionBound
+pub mod Lifting

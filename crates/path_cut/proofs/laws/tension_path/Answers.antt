@@ -1,0 +1,5 @@
+use Rattle.path_cut.proofs.TensionBound as law
+use Rattle.path_cut.proofs.laws.tension_path.Goals as goal
+
+pub returns : goal.returns
+returns c = law.tension-path

@@ -1,0 +1,8 @@
+-- Paths, and what is greatest between two nodes:
+pub mod Paths
+pub mod GreatestFlow
+pub mod GreatestTension
+-- Its laws:
+pub mod FlowLaws
+pub mod TensionLaws
+pub mod Lifting
