@@ -5,7 +5,10 @@ pub mod Prices
 pub mod Marking
 -- How it spreads:
 pub mod Spreading
+pub mod Heaps
+pub mod Requeued
 pub mod Relaxing
+pub mod Waiting
 pub mod Bundles
 pub mod Settling
 -- How flow moves:

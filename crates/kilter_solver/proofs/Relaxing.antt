@@ -20,6 +20,7 @@ use Rattle.kilter_solver.specs.Ready.{AreOnCurves, Ready}
 use Rattle.kilter_solver.specs.Spread.{key, level, is_label, is_near, IsTried, WayTo, Spread, IsLater, relaxed, IsImproved, kept, lowered}
 use Rattle.net_incidence.proofs.Graphs.{begin-in_graph, end-in_graph}
 use Rattle.kilter_solver.proofs.Spreading.{near-done, near-label, pair_along}
+use Rattle.kilter_solver.proofs.Requeued.{later-queue, spread-queue}
 
 -- ---- what was tried stays tried
 
@@ -86,10 +87,10 @@ module _ (w : Room) (b : ℕ) (s : Step) (z : ℤ) (there : b < w.nodes) where
   relaxed-labels : (k : ℕ) → k ≢ b → label_at (relaxed w b s z).labels k ≡ label_at w.labels k
   relaxed-labels k other = get_or-set_other w.labels b k (Some s) None other
 
-  relaxed-near : IsTrue (is_near (relaxed w b s z) b)
+  pub relaxed-near : IsTrue (is_near (relaxed w b s z) b)
   relaxed-near = near-label (relaxed w b s z) b s relaxed-label
 
-  relaxed-nears : (k : ℕ) → k ≢ b → is_near (relaxed w b s z) k ≡ is_near w k
+  pub relaxed-nears : (k : ℕ) → k ≢ b → is_near (relaxed w b s z) k ≡ is_near w k
   relaxed-nears k other = ap (λ (l : Option Step). holds w.reached k || is_label l) (relaxed-labels k other)
 
   pub relaxed-later : holds w.reached b ≡ false → (IsTrue (is_near w b) → z ≤ℤ key w b) → IsLater w (relaxed w b s z)
@@ -304,9 +305,16 @@ step-tried g lists source s v w h z ready there spread waits price offer (kept s
       tried = tried-kept g lists source v s h z ready.on_curves there price offer near order;
     })
 step-tried g lists source s v w h z ready there spread waits price offer (lowered same fall) =
-    subst (λ (r : Room). StepTried g lists source s v r) (sym same)
-    (record {
-      spread = spread-relaxed g lists source v s h z spread ready.same_nodes (begin-in_graph g s there) (end-in_graph g s there) there ready.on_curves waits price offer fall;
-      later = relaxed-later v (end_of (bare g) s) s z (let e = end-in_graph g s there in omega (arith, ready.same_nodes)) waits fall;
-      tried = tried-relaxed g lists source v s h z spread ready.same_nodes (begin-in_graph g s there) (end-in_graph g s there) there ready.on_curves waits price offer;
-    })
+    let a = begin_of (bare g) s in
+    let b = end_of (bare g) s in
+    let begin_there = begin-in_graph g s there in
+    let end_there = end-in_graph g s there in
+    let r = relaxed v b s z in
+    let further = later-queue r w same in
+    let tried = tried-relaxed g lists source v s h z spread ready.same_nodes begin_there end_there there ready.on_curves waits price offer in
+    record {
+      spread = spread-queue g lists source a r w same
+          (spread-relaxed g lists source v s h z spread ready.same_nodes begin_there end_there there ready.on_curves waits price offer fall);
+      later = later-further v r w (relaxed-later v b s z (omega (arith, end_there, ready.same_nodes)) waits fall) further;
+      tried = tried-later g lists r w s further (spread.opened_done begin_there) tried;
+    }

@@ -14,10 +14,11 @@ use Rattle.net_incidence.proofs.Degrees.{degrees}
 use Rattle.kilter_solver.specs.Excess.{excess}
 use Rattle.kilter_solver.specs.Marks.{marked_total}
 use Rattle.kilter_solver.specs.Ready.{Ready}
-use Rattle.kilter_solver.specs.Spread.{Spread, IsSameState, IsLater}
+use Rattle.kilter_solver.specs.Spread.{Spread, IsSameState, IsLater, IsSameButQueue}
 use Rattle.theory.proofs.Marks.{holds-set_other}
 use Rattle.kilter_solver.proofs.Marking.{marked_total-set, marked_total-most}
 use Rattle.kilter_solver.proofs.Spreading.{near-done, near-below, started, started-alone, ready-same}
+use Rattle.kilter_solver.proofs.Requeued.{later-queue}
 
 abbrev pub degree : Graph → ℕ → ℕ
 degree g i = length (incident_steps g.arcs i)
@@ -78,7 +79,7 @@ module _ (g : Graph) (lists : List (List Ext)) (source : ℕ) where
       let h = before i done_before in
       omega (arith, ints)
 
-  pub settling-begun : (entry v w : Room) → v ≡ started entry source → source < g.nodes → Ready g lists entry → pos 0 ≤ℤ excess entry source
+  pub settling-begun : (entry v w : Room) → IsSameButQueue (started entry source) v → source < g.nodes → Ready g lists entry → pos 0 ≤ℤ excess entry source
       → IsLater v w → Spread g lists source g.nodes w → IsSettling g lists source entry w
   settling-begun entry v w is there ready surplus later spread =
       let begun_state : IsSameState entry (started entry source) = record {
@@ -88,7 +89,8 @@ module _ (g : Graph) (lists : List (List Ext)) (source : ℕ) where
         potentials = refl;
         excesses = λ i l. get_or-set_other entry.scratch (entry.nodes + source) i (pos 0) (pos 0) (λ e. omega arith);
       } in
-      let state : IsSameState entry v = subst (λ (r : Room). IsSameState entry r) (sym is) begun_state in
+      let now = later-queue (started entry source) v is in
+      let state : IsSameState entry v = state-further entry (started entry source) v begun_state now.state in
       let below : source < entry.nodes = omega (arith, ready.same_nodes) in
       record {
         ready = ready-same g lists v w later.state (ready-same g lists entry v state ready);
@@ -97,19 +99,21 @@ module _ (g : Graph) (lists : List (List Ext)) (source : ℕ) where
         none_lacks = visited-none_lacks v w later
             (λ i done.
             let alone : i ≡ source = started-alone g lists entry source ready.same_nodes below i
-            (near-done (started entry source) i (subst (λ (r : Room). IsTrue (holds r.reached i)) is done)) in
+            (near-done (started entry source) i (subst (λ (side : List Bool). IsTrue (holds side i)) now.reached done)) in
             let e : excess v i ≡ excess v source = ap (excess v) alone in
             let f = state.excesses source below in
             omega (arith, ints));
       }
 
-  pub settling-more : (entry u v w : Room) (i : ℕ) → IsSettling g lists source entry u → v ≡ with_mark u i → pos 0 ≤ℤ excess u i
+  pub settling-more : (entry u v w : Room) (i : ℕ) → IsSettling g lists source entry u → IsSameButQueue (with_mark u i) v → pos 0 ≤ℤ excess u i
       → IsLater v w → Spread g lists source g.nodes w → IsSettling g lists source entry w
   settling-more entry u v w i before is surplus later spread =
-      let same : IsSameState u v = subst (λ (r : Room). IsSameState u r) (sym is)
-      (record { nodes = refl; arcs = refl; flows = refl; potentials = refl; excesses = λ k l. refl }) in
+      let marked : IsSameState u (with_mark u i) =
+      record { nodes = refl; arcs = refl; flows = refl; potentials = refl; excesses = λ k l. refl } in
+      let now = later-queue (with_mark u i) v is in
+      let same : IsSameState u v = state-further u (with_mark u i) v marked now.state in
       let none : (k : ℕ) → IsTrue (holds v.reached k) → pos 0 ≤ℤ excess v k =
-      subst (λ (r : Room). (k : ℕ) → IsTrue (holds r.reached k) → pos 0 ≤ℤ excess r k) (sym is) (none_lacks-more u i before.none_lacks surplus) in
+      visited-none_lacks (with_mark u i) v now (none_lacks-more u i before.none_lacks surplus) in
       record {
         ready = ready-same g lists v w later.state (ready-same g lists u v same before.ready);
         spread = spread;

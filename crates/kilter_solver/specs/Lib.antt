@@ -7,6 +7,7 @@ pub mod Ready
 pub mod Marks
 -- The search for a cheapest route:
 pub mod Spread
+pub mod Heap
 pub mod Routing
 -- The beginning: flows on their curves
 pub mod Clamping

@@ -90,10 +90,21 @@ pub record IsLater (v w : Room) : Type 0 where
 abbrev pub relaxed : Room → ℕ → Step → ℤ → Room
 relaxed w i s z = relabelled (with_scratch w (w.nodes + i) z) i s
 
+-- nothing but the queue differs
+pub record IsSameButQueue (v w : Room) : Type 0 where
+  pub nodes : w.nodes ≡ v.nodes
+  pub arcs : w.arcs ≡ v.arcs
+  pub flows : w.flows ≡ v.flows
+  pub potentials : w.potentials ≡ v.potentials
+  pub reached : w.reached ≡ v.reached
+  pub labels : w.labels ≡ v.labels
+  pub walk : w.walk ≡ v.walk
+  pub scratch : w.scratch ≡ v.scratch
+
 -- the lesser of the key offered and that of the node is kept
 pub data IsImproved (v w : Room) (i : ℕ) (s : Step) (z : ℤ) : Type 0 where
   kept : w ≡ v → IsTrue (is_near v i) → key v i ≤ℤ z → IsImproved v w i s z
-  lowered : w ≡ relaxed v i s z → (IsTrue (is_near v i) → z ≤ℤ key v i) → IsImproved v w i s z
+  lowered : IsSameButQueue (relaxed v i s z) w → (IsTrue (is_near v i) → z ≤ℤ key v i) → IsImproved v w i s z
 
 -- node i was met, isn't settled, and has the least key of all such nodes
 pub record IsNearest (w : Room) (i : ℕ) : Type 0 where
@@ -102,17 +113,7 @@ pub record IsNearest (w : Room) (i : ℕ) : Type 0 where
   pub waits : holds w.reached i ≡ false
   pub least : (k : ℕ) → IsTrue (is_near w k) → holds w.reached k ≡ false → key w i ≤ℤ key w k
 
--- the same among the first n nodes; None where all met nodes are settled
-pub record IsNearestBelow (w : Room) (n i : ℕ) : Type 0 where
-  pub there : i < w.nodes
-  pub near : IsTrue (is_near w i)
-  pub waits : holds w.reached i ≡ false
-  pub least : (k : ℕ) → k < n → IsTrue (is_near w k) → holds w.reached k ≡ false → key w i ≤ℤ key w k
-
-abbrev pub IsBestBelow : Room → ℕ → Option NodeId → Type 0
-IsBestBelow w n None = (k : ℕ) → k < n → IsTrue (is_near w k) → IsTrue (holds w.reached k)
-IsBestBelow w n (Some node) = IsNearestBelow w n node.0
-
+-- None where all met nodes are settled
 abbrev pub IsNearestOf : Room → Option NodeId → Type 0
 IsNearestOf w None = (k : ℕ) → IsTrue (is_near w k) → IsTrue (holds w.reached k)
 IsNearestOf w (Some node) = IsNearest w node.0

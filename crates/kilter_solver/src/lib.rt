@@ -8,6 +8,7 @@ mod clamp;
 mod cut_test;
 mod feasible;
 mod gaps;
+mod heap;
 mod kilter_test;
 mod levels;
 mod routes;

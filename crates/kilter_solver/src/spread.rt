@@ -12,9 +12,11 @@ ghost use Rattle.kilter_solver.specs.Along.{IsPrice, price_up, price_down};
 ghost use Rattle.theory.specs.Network.{list_at};
 ghost use Rattle.kilter_solver.specs.Excess.{excess};
 ghost use Rattle.kilter_solver.specs.Ready.{Ready};
-ghost use Rattle.kilter_solver.specs.Spread.{key, level, Spread, IsTried, IsLater, IsSameState, IsImproved, IsBestBelow, IsNearestOf, IsOutcome};
+ghost use Rattle.kilter_solver.specs.Spread.{key, level, Spread, IsTried, IsLater, IsSameState, IsImproved, IsOutcome};
+ghost use Rattle.kilter_solver.specs.Heap.{IsWaiting};
 
 use crate::bundle::Bundle;
+use crate::heap::{clear, decrease, insert, nearest, take_least};
 use crate::words::{excess, is_met, key, set_key};
 use mono_curve::Steps;
 use net_incidence::Net;
@@ -64,8 +66,10 @@ impl<B: Bundle> Routing<'_, B> {
         requires ready { Ready self.now.net.now (B.lists self.now.bundle.now) work.old }
         requires there { step.arc.0 < length self.now.net.now.arcs }
         requires spread { Spread self.now.net.now (B.lists self.now.bundle.now) source.0 (begin_of (bare self.now.net.now) step) work.old }
+        requires queue { IsWaiting work.old }
         ensures spread { Spread self.now.net.now (B.lists self.now.bundle.now) source.0 (begin_of (bare self.now.net.now) step) work.new }
         ensures later { IsLater work.old work.new }
+        ensures queue { IsWaiting work.new }
         ensures tried { IsTried self.now.net.now (B.lists self.now.bundle.now) work.new step }
         ensures no_fewer { steps.old ≤ steps.new }
         ensures count { steps.new ≤ steps.old + B.weight self.now.bundle.now }
@@ -88,7 +92,9 @@ impl<B: Bundle> Routing<'_, B> {
         requires ready { Ready self.now.net.now (B.lists self.now.bundle.now) work.old }
         requires there { node.0 < self.now.net.now.nodes }
         requires spread { Spread self.now.net.now (B.lists self.now.bundle.now) source.0 node.0 work.old }
+        requires queue { IsWaiting work.old }
         ensures spread { Spread self.now.net.now (B.lists self.now.bundle.now) source.0 self.now.net.now.nodes work.new }
+        ensures queue { IsWaiting work.new }
         ensures later { IsLater work.old work.new }
         ensures no_fewer { steps.old ≤ steps.new }
         ensures count { steps.new ≤ steps.old + length (incident_steps self.now.net.now.arcs node.0) * B.weight self.now.bundle.now }
@@ -115,12 +121,14 @@ impl<B: Bundle> Routing<'_, B> {
     {
         work.begin_at(source);
         set_key(work, source, 0);
+        clear(work);
         self.visit(source, source, work, steps);
         while let Some(node) = nearest(work) {
             if excess(work, node) < 0 {
                 return Some(node);
             }
             work.mark(node);
+            take_least(work);
             self.visit(node, source, work, steps);
         }
         None
@@ -148,37 +156,20 @@ fn backward_price(low: Ext) -> Option<i64>
 
 /// Keeps the offer, with the step, where it is less than the node's key.
 fn improve(work: &mut Work, node: NodeId, step: Step, offer: i64)
-    requires { node.0 < work.old.nodes }
-    ensures { IsImproved work.old work.new node.0 step offer }
+    requires there { node.0 < work.old.nodes }
+    requires waits { holds work.old.reached node.0 ≡ false }
+    requires queue { IsWaiting work.old }
+    ensures improved { IsImproved work.old work.new node.0 step offer }
+    ensures queue { IsWaiting work.new }
 {
-    if is_met(work, node) && key(work, node) <= offer {
+    let met = is_met(work, node);
+    if met && key(work, node) <= offer {
         return;
     }
-    set_key(work, node, offer);
     work.set_label(node, step);
-}
-
-/// The node to be settled next.
-fn nearest(work: &Work) -> Option<NodeId>
-    ensures { IsNearestOf work.now result }
-{
-    let mut best = None;
-    for i in 0..work.nodes() {
-        best = nearer(work, best, NodeId(i as u32));
-    }
-    best
-}
-
-fn nearer(work: &Work, best: Option<NodeId>, node: NodeId) -> Option<NodeId>
-    requires there { node.0 < work.now.nodes }
-    requires best { IsBestBelow work.now node.0 best }
-    ensures { IsBestBelow work.now (node.0 + 1) result }
-{
-    if work.reached(node) || work.label(node).is_none() {
-        return best;
-    }
-    match best {
-        Some(other) if key(work, other) <= key(work, node) => Some(other),
-        _ => Some(node),
+    if met {
+        decrease(work, node, offer);
+    } else {
+        insert(work, node, offer);
     }
 }

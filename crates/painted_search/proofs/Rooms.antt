@@ -1,5 +1,5 @@
 -- A room is its counts and lists: of the facts that it carries there is only one proof.
-use Rattle.std.proofs.Common.{◌≡◌, ℕ, ◌-◌, ◌*◌, ◌<◌, ℤ, Bool, Option, Some, None, List, [], ◌∷◌, length, take, drop, refl, sym, ap, ◌∙◌, subst, length-append, arith}
+use Rattle.std.proofs.Common.{◌≡◌, ℕ, ◌+◌, ◌-◌, ◌*◌, ◌<◌, ℤ, Bool, Option, Some, None, List, [], ◌∷◌, length, take, drop, refl, sym, ap, ◌∙◌, subst, length-append, arith}
 use Rattle.std.proofs.Props.{props}
 use Rattle.theory.specs.declared.network.Step.{Step}
 use Rattle.painted_search.specs.Room.{IsSized, Room}
@@ -14,6 +14,7 @@ pub record Lists : Type 0 where
   pub labels : List (Option Step)
   pub walk : List Step
   pub scratch : List ℤ
+  pub queue : List ℕ
 
 abbrev pub lists : Room → Lists
 lists w = record {
@@ -25,10 +26,14 @@ lists w = record {
   labels = w.labels;
   walk = w.walk;
   scratch = w.scratch;
+  queue = w.queue;
 }
 
 abbrev AreSized : Lists → Type 0
-AreSized l = IsSized l.nodes l.arcs l.flows l.potentials l.reached l.labels l.walk × (length l.scratch ≡ 2 * l.nodes)
+AreSized l =
+    IsSized l.nodes l.arcs l.flows l.potentials l.reached l.labels l.walk
+    × (length l.scratch ≡ 2 * l.nodes)
+    × (length l.queue ≡ 2 * l.nodes + 1)
 
 abbrev room : (l : Lists) → AreSized l → Room
 room l sized = record {
@@ -40,8 +45,10 @@ room l sized = record {
   labels = l.labels;
   walk = l.walk;
   scratch = l.scratch;
+  queue = l.queue;
   sized = sized.0;
   two_words_each = sized.1;
+  two_slots_each = sized.2;
 }
 
 pub room-same : (v w : Room) → lists v ≡ lists w → v ≡ w
@@ -49,10 +56,10 @@ room-same v w same =
     let one_proof : (q : AreSized (lists w)) → room (lists w) q ≡ w =
     (λ q.
     let one : IsProp (AreSized (lists w)) = hlevel props in
-    ap (room (lists w)) (one q (w.sized, w.two_words_each))) in
+    ap (room (lists w)) (one q (w.sized, w.two_words_each, w.two_slots_each))) in
     let moved : (q : AreSized (lists v)) → room (lists v) q ≡ w =
     subst (λ (l : Lists). (q : AreSized l) → room l q ≡ w) (sym same) one_proof in
-    moved (v.sized, v.two_words_each)
+    moved (v.sized, v.two_words_each, v.two_slots_each)
 
 abbrev pub with_walk : Room → List Step → Lists
 with_walk w walk = record (lists w) { walk = walk }

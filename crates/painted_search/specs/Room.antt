@@ -1,7 +1,7 @@
 -- Room: what the working room of a solve is seen as. A flow for each arc, a potential, a mark and a label for each node, a
--- walk, two more numbers for each node for the caller's own use, and the counts of nodes and arcs that it was taken for, with
--- the proof that the lengths agree with these.
-use Rattle.std.specs.Prelude.{◌≡◌, ℕ, ◌*◌, ◌≤◌, ◌^◌, ℤ, pos, Bool, false, Option, None, List, [], ◌++◌, length, take, drop, replicate}
+-- walk, two more numbers for each node for the caller's own use, a queue of two words for each node and one, and the counts of
+-- nodes and arcs that it was taken for, with the proof that the lengths agree with these.
+use Rattle.std.specs.Prelude.{◌≡◌, ℕ, ◌+◌, ◌*◌, ◌≤◌, ◌^◌, ℤ, pos, Bool, false, Option, None, List, [], ◌++◌, length, take, drop, replicate}
 use Rattle.theory.specs.declared.network.Step.{Step}
 
 -- the greatest count of nodes, and of arcs
@@ -27,8 +27,10 @@ pub record Room : Type 0 where
   pub labels : List (Option Step)
   pub walk : List Step
   pub scratch : List ℤ
+  pub queue : List ℕ
   pub sized : IsSized nodes arcs flows potentials reached labels walk
   pub two_words_each : length scratch ≡ 2 * nodes
+  pub two_slots_each : length queue ≡ 2 * nodes + 1
 
 -- the room as it is taken: all numbers 0, no node marked, no label, no step
 pub record IsEmpty (count_of_nodes count_of_arcs : ℕ) (w : Room) : Type 0 where
@@ -40,6 +42,7 @@ pub record IsEmpty (count_of_nodes count_of_arcs : ℕ) (w : Room) : Type 0 wher
   pub labels : w.labels ≡ replicate count_of_nodes None
   pub walk : w.walk ≡ []
   pub scratch : w.scratch ≡ replicate (2 * count_of_nodes) (pos 0)
+  pub queue : w.queue ≡ replicate (2 * count_of_nodes + 1) 0
 
 -- all words of the nodes, with the first of them written over: the potentials, then the scratch
 abbrev pub overwritten : Room → List ℤ → List ℤ

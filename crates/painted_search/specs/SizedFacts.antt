@@ -1,5 +1,5 @@
 -- Lengths as a room is written to: each write keeps them.
-use Rattle.std.specs.Prelude.{◌≡◌, ℕ, ◌*◌, ◌<◌, ◌≤◌, ℤ, Bool, true, false, Option, Some, None, List, [], ◌∷◌, ◌++◌, length, take, drop, replicate, reverse, slice_set}
+use Rattle.std.specs.Prelude.{◌≡◌, ℕ, ◌+◌, ◌*◌, ◌<◌, ◌≤◌, ℤ, Bool, true, false, Option, Some, None, List, [], ◌∷◌, ◌++◌, length, take, drop, replicate, reverse, slice_set}
 use Rattle.std.proofs.Common.{refl, sym, ◌∙◌, arith, length-append, length-drop}
 use Rattle.std.proofs.lemmas.List.{length-set, length-replicate, length-reverse, length-take-le}
 use Rattle.std.specs.List.{length_refill}
@@ -49,6 +49,9 @@ sized-scratch w words =
 
 pub sized-word : (w : Room) (k : ℕ) (z : ℤ) → length (slice_set w.scratch k z) ≡ 2 * w.nodes
 sized-word w k z = length-set w.scratch k z ∙ w.two_words_each
+
+pub sized-slot : (w : Room) (k word : ℕ) → length (slice_set w.queue k word) ≡ 2 * w.nodes + 1
+sized-slot w k word = length-set w.queue k word ∙ w.two_slots_each
 
 pub sized-no_walk : (w : Room) → IsSized w.nodes w.arcs w.flows w.potentials w.reached w.labels []
 sized-no_walk w = resized w.sized refl refl refl refl (omega arith)

@@ -2,7 +2,7 @@
 use Rattle.std.specs.Prelude.{ℕ, ◌<◌, ℤ, true, Some, None, List, [], ◌∷◌, ◌++◌, length, take, drop, replicate, slice_set}
 use Rattle.theory.specs.declared.network.Step.{Step}
 use Rattle.painted_search.specs.Room.{Room, overwritten}
-use Rattle.painted_search.specs.SizedFacts.{sized-flow, sized-potential, sized-potentials, sized-scratch, sized-word, sized-no_walk, sized-step, sized-marked, sized-unlabelled, sized-relabelled}
+use Rattle.painted_search.specs.SizedFacts.{sized-flow, sized-potential, sized-potentials, sized-scratch, sized-word, sized-slot, sized-no_walk, sized-step, sized-marked, sized-unlabelled, sized-relabelled}
 
 abbrev pub with_flow : Room → ℕ → ℤ → Room
 with_flow w j x = record w { flows = slice_set w.flows j x; sized = sized-flow w j x }
@@ -20,6 +20,9 @@ with_potentials w words = record w {
 
 abbrev pub with_scratch : Room → ℕ → ℤ → Room
 with_scratch w k z = record w { scratch = slice_set w.scratch k z; two_words_each = sized-word w k z }
+
+abbrev pub with_queue : Room → ℕ → ℕ → Room
+with_queue w k word = record w { queue = slice_set w.queue k word; two_slots_each = sized-slot w k word }
 
 abbrev pub with_no_walk : Room → Room
 with_no_walk w = record w { walk = []; sized = sized-no_walk w }

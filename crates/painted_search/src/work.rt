@@ -1,5 +1,5 @@
 // The working room of a solve: all that its passes write, taken once.
-ghost use Rattle.std.specs.Prelude.{◌≡◌, ◌*◌, ◌≤◌, length, take, drop, vec_capacity};
+ghost use Rattle.std.specs.Prelude.{◌≡◌, ◌+◌, ◌*◌, ◌≤◌, length, take, drop, vec_capacity};
 ghost use Rattle.painted_search.specs.Room.{IsSized};
 
 use std::alloc::{AllocError, Global};
@@ -16,12 +16,14 @@ pub struct Work {
     flows: Vec<i64>,
     // the potentials, then the scratch
     words: Vec<i64>,
+    queue: Vec<u32>,
     marks: Vec<bool>,
     labels: Vec<Option<Step>>,
     walk: Vec<Step>,
     ghost sized: { IsSized nodes arcs flows.items (take nodes words.items) marks.items labels.items walk.items },
     ghost words_there: { length words.items ≡ 3 * nodes },
     ghost scratch_there: { length (drop nodes words.items) ≡ 2 * nodes },
+    ghost queue_there: { length queue.items ≡ 2 * nodes + 1 },
     ghost walk_room: { nodes ≤ vec_capacity walk },
 }
 
@@ -40,19 +42,21 @@ impl Model for Work {
       labels = work.labels.items;
       walk = work.walk.items;
       scratch = drop work.nodes work.words.items;
+      queue = work.queue.items;
       sized = work.sized;
       two_words_each = work.scratch_there;
+      two_slots_each = work.queue_there;
     } };
 }
 
 impl Work {
-    ghost use Rattle.std.specs.Prelude.{◌≡◌, ◌*◌, ◌<◌, ◌≤◌, length, take, slice_index_or, None, IfOk};
+    ghost use Rattle.std.specs.Prelude.{◌≡◌, ◌+◌, ◌*◌, ◌<◌, ◌≤◌, length, take, slice_index_or, None, IfOk};
     ghost use Rattle.std.specs.Borrow.{sem};
     ghost use Rattle.theory.specs.Network.{«at»};
     ghost use Rattle.theory.specs.Cut.{holds};
     ghost use Rattle.theory.specs.Circuit.{step};
     ghost use Rattle.painted_search.specs.Room.{count_most, IsEmpty};
-    ghost use Rattle.painted_search.specs.Writes.{with_flow, with_potential, with_scratch, with_no_walk, with_step, with_mark, unlabelled, relabelled};
+    ghost use Rattle.painted_search.specs.Writes.{with_flow, with_potential, with_scratch, with_queue, with_no_walk, with_step, with_mark, unlabelled, relabelled};
     ghost use Rattle.painted_search.specs.Reaching.{begun, with_reached, with_turned_walk};
     ghost use Rattle.painted_search.specs.Lending.{LendsPotentials};
 
@@ -68,6 +72,7 @@ impl Work {
             arcs,
             flows: vec![in alloc; 0i64; arcs]?,
             words: vec![in alloc; 0i64; 3 * nodes]?,
+            queue: vec![in alloc; 0u32; 2 * nodes + 1]?,
             marks: vec![in alloc; false; nodes]?,
             labels: vec![in alloc; None; nodes]?,
             walk: Vec::with_capacity(alloc, nodes)?,
@@ -224,6 +229,21 @@ impl Work {
     {
         let place = self.nodes + k;
         self.words[place] = word;
+    }
+
+    /// One of the words for a queue of nodes: two for each node, and one more.
+    pub fn queue(&self, k: usize) -> u32
+        requires { k < 2 * self.now.nodes + 1 }
+        ensures { result ≡ slice_index_or self.now.queue k 0 }
+    {
+        self.queue[k]
+    }
+
+    pub fn set_queue(&mut self, k: usize, word: u32)
+        requires { k < 2 * self.old.nodes + 1 }
+        ensures { self.new ≡ with_queue self.old k word }
+    {
+        self.queue[k] = word;
     }
 
     /// Marks the node as reached, by no step.

@@ -20,6 +20,7 @@ loop-step-preserved g c =
     record {
       ready = ready-same net lists v w c.try_step.ensures.later.state before.ready;
       spread = subst (λ (i : ℕ). Spread net lists c.args.source.0 i w) (begins c.loop-step.step-index there) c.try_step.ensures.spread;
+      queue = c.try_step.ensures.queue;
       later = later-further c.args.work.now v w before.later c.try_step.ensures.later;
       tried = below_more _ _
           (λ k l.

@@ -22,6 +22,7 @@ returns c =
       labels = c.self.inside.labels.items;
       walk = c.self.inside.walk.items;
       scratch = drop n all;
+      queue = c.self.inside.queue.items;
     } in (
       (
         refl,

@@ -23,6 +23,7 @@ returns c =
       labels = c.self.inside.labels.items;
       walk = c.self.inside.walk.items;
       scratch = scratch;
+      queue = c.self.inside.queue.items;
     }) front rest
     ∙ ap (λ (w : Room). lists (with_potential w c.args.node.0 (to_z w64 (of_z w64 c.args.potential)))) c.self.view_is
     ∙ ap (λ u. lists (with_potential c.args.self.now c.args.node.0 u)) (to_z-of_z fits))

@@ -24,6 +24,7 @@ returns c =
       labels = c.self.inside.labels.items;
       walk = c.self.inside.walk.items;
       scratch = scratch;
+      queue = c.self.inside.queue.items;
     }) front rest
     ∙ ap (λ (w : Room). lists (with_scratch w k z)) c.self.view_is
     ∙ ap (λ u. lists (with_scratch c.args.self.now k u)) (to_z-of_z fits))
