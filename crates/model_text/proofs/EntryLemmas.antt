@@ -20,11 +20,11 @@ over-neg : (m : ℕ) → is_over (neg_ℤ (pos m)) ≡ nat_lt number_most m
 over-neg zero = refl
 over-neg (suc m) = refl
 
-near-over : (z : ℤ) → is_over (near_number z) ≡ is_over z
+pub near-over : (z : ℤ) → is_over (near_number z) ≡ is_over z
 near-over (pos n) = grind (arith, nat_tests)
 near-over (negsuc n) = over-neg (min (n + 1) (number_most + 1)) ∙ grind (arith, nat_tests)
 
-near-exact : (z : ℤ) → is_over z ≡ false → near_number z ≡ z
+pub near-exact : (z : ℤ) → is_over z ≡ false → near_number z ≡ z
 near-exact (pos n) within = let least : min n (number_most + 1) ≡ n = grind (arith, nat_tests) in ap pos least
 near-exact (negsuc n) within = let least : min (n + 1) (number_most + 1) ≡ suc n = grind (arith, nat_tests) in ap (λ m. neg_ℤ (pos m)) least
 

@@ -29,7 +29,7 @@ module _ {A : Type 0} where
   same_key k l = pointwise nat_eq k.items l.items
 
   -- a key that none of the keys is goes last
-  goes_last : {X : Type 0} (key : Vec ℕ A) (x : X) (rows : List (Vec ℕ A × X))
+  pub goes_last : {X : Type 0} (key : Vec ℕ A) (x : X) (rows : List (Vec ℕ A × X))
       → ((k : ℕ) (d : Vec ℕ A) → k < length (map (λ row. row.0) rows) → same_key key (get_or (map (λ row. row.0) rows) k d) ≡ false)
       → insert_entry same_key rows key x ≡ rows ++ (key, x) ∷ []
   goes_last key x [] fails = refl

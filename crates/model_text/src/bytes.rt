@@ -3,14 +3,15 @@ ghost use Rattle.std.specs.Prelude.{◌≡◌, ◌==◌};
 ghost use Rattle.std.specs.List.{before_first, after_first};
 ghost use Rattle.std.specs.Str.{bytes_eq};
 
-pub(crate) fn are_same(bytes: &[u8], others: &[u8]) -> bool
+/// Whether the bytes are the same, one by one.
+pub fn are_same(bytes: &[u8], others: &[u8]) -> bool
     ensures { result ≡ bytes_eq bytes.now others.now }
 {
     bytes == others
 }
 
 /// What stands before the first such byte, and what stands after it: all and nothing where there is none.
-pub(crate) fn cut(bytes: &[u8], at: u8) -> (&[u8], &[u8])
+pub fn cut(bytes: &[u8], at: u8) -> (&[u8], &[u8])
     ensures before { result.0.now ≡ before_first (λ byte. byte == at) bytes.now }
     ensures after { result.1.now ≡ after_first (λ byte. byte == at) bytes.now }
 {

@@ -19,8 +19,11 @@ mod tests;
 pub mod text_laws;
 mod words;
 
+pub use bytes::{are_same, cut};
 pub use fault::FaultWord;
 pub use model::{ARCS_MOST, AddFault, LIST_MOST, Model, NODES_MOST};
 pub use name::{NAME_MOST, Name, NameFault, is_name};
+pub use numbers::number;
 pub use print::{append_end, append_line, append_list, append_number, append_word, print_model};
 pub use read::{ModelError, read_model};
+pub use words::words_of;

@@ -24,8 +24,8 @@ pub(crate) fn item(word: &[u8]) -> Option<Ext>
     }
 }
 
-/// The number that a word is, of any count of digits.
-pub(crate) fn number(word: &[u8]) -> Option<i64>
+/// The number that a word is, of any count of digits. One beyond the limit comes as the first number beyond it.
+pub fn number(word: &[u8]) -> Option<i64>
     ensures { result ≡ option_map near_number (number_of word.now) }
 {
     match word {

@@ -7,7 +7,7 @@ use crate::bytes::cut;
 use std::alloc::{AllocError, Global};
 
 /// The words, in one table; each is a piece of the line.
-pub(crate) fn words_of(alloc: Global, line: &[u8]) -> Result<Vec<&[u8]>, AllocError>
+pub fn words_of(alloc: Global, line: &[u8]) -> Result<Vec<&[u8]>, AllocError>
     ensures { IfOk result (λ words. map (λ word. word.now) words.items ≡ line_words line.now) }
 {
     content(line)

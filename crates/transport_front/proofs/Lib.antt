@@ -1,0 +1,6 @@
+pub mod Prices
+pub mod Lists
+pub mod Compiled
+pub mod Flows
+pub mod Shortages
+pub mod Law
