@@ -10,7 +10,7 @@ ghost use Rattle.mono_top.specs.Steady.{AllHeld, HasRoom};
 use crate::status::Status;
 use crate::top::run;
 use mono_curve::Steps;
-use outside_io::{SteadyShelf, SteadySink};
+use outside_io::{Shelf, SteadyShelf, SteadySink};
 use std::alloc::Global;
 use std::sync::ledger::Ledger;
 
