@@ -73,7 +73,12 @@ fn compare_torn(
 ) -> Result<(), Fail> {
     let (got, out) = outcome(alloc, torn)?;
     assert_eq!(rt; got, code, "{:?} {:?}", torn.source_fails, torn.sink_fails);
-    assert!(rt; out.bytes() == written, "{:?} {:?}", torn.source_fails, torn.sink_fails);
+    assert!(rt;
+        out.bytes() == written,
+        "{:?} {:?}",
+        torn.source_fails,
+        torn.sink_fails
+    );
     Ok(())
 }
 
@@ -98,9 +103,23 @@ fn compare_read(
 #[test]
 fn each_read_fails(rt: HostRuntime) -> Result<(), Fail> {
     for call in 0..MODEL_CALLS {
-        compare_read(&rt, rt.alloc(), &["solve", "a"], call, 7, b"read fault file 1\n")?;
+        compare_read(
+            &rt,
+            rt.alloc(),
+            &["solve", "a"],
+            call,
+            7,
+            b"read fault file 1\n",
+        )?;
     }
-    compare_read(&rt, rt.alloc(), &["solve", "a"], MODEL_CALLS, 0, CERTIFICATE)
+    compare_read(
+        &rt,
+        rt.alloc(),
+        &["solve", "a"],
+        MODEL_CALLS,
+        0,
+        CERTIFICATE,
+    )
 }
 
 #[test]
@@ -165,7 +184,13 @@ fn a_model_is_cut_off(rt: HostRuntime) -> Result<(), Fail> {
     let solve: &[&str] = &["solve", "a"];
     let rows = [
         plain("to nothing", solve, b"", 5, "model line 1: header\n"),
-        plain("in its header", solve, b"network ", 5, "model line 1: header\n"),
+        plain(
+            "in its header",
+            solve,
+            b"network ",
+            5,
+            "model line 1: header\n",
+        ),
         plain("before a line's end", solve, b"network 1", 0, EMPTY_SOLVED),
         plain("behind its first line", solve, EMPTY, 0, EMPTY_SOLVED),
         plain(
@@ -253,11 +278,7 @@ fn counted_steadily<L: Ledger>(
     Ok((status.code(), out))
 }
 
-fn steadily(
-    alloc: Global,
-    words: &[&str],
-    room: usize,
-) -> Result<(u8, SteadySink), AllocError> {
+fn steadily(alloc: Global, words: &[&str], room: usize) -> Result<(u8, SteadySink), AllocError> {
     counted_steadily::<Brand>(alloc, words, room, Blank::new(1))
 }
 
