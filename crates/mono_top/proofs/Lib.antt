@@ -10,3 +10,4 @@ pub mod HeadlineLemmas
 pub mod NumberLemmas
 pub mod AscendingLemmas
 pub mod TableauLemmas
+pub mod SteadyLemmas

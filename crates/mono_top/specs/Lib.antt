@@ -20,6 +20,7 @@ pub mod ShowsTableau
 pub mod Solves
 pub mod Starts
 pub mod Status
+pub mod Steady
 pub mod TooBig
 pub mod TrialNumber
 pub mod VerdictLines

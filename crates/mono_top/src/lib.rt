@@ -14,6 +14,7 @@ mod show_curve;
 mod show_tableau;
 mod solve;
 mod status;
+mod steady;
 mod top;
 mod trial;
 mod trial_number;
@@ -21,6 +22,7 @@ mod verdict_line;
 
 pub use fetch::FILE_MOST;
 pub use status::Status;
+pub use steady::run_steadily;
 pub use top::run;
 
 #[cfg(test)]
@@ -35,3 +37,5 @@ mod solve_tests;
 mod tableau_tests;
 #[cfg(test)]
 mod tests;
+#[cfg(test)]
+mod torn_tests;

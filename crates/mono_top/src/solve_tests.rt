@@ -6,7 +6,8 @@ use crate::tests::{ORDINARY, Row, compare_and_check, plain};
 use std::test::Fail;
 
 /// The supply has any size at the potential 2, so the pair is the only optimal one.
-const ONE_PAIR: &[u8] = b"network 1\nnode s -inf 2 +inf\nnode t -5\narc a s t 0 2 4 5 10\n";
+pub(crate) const ONE_PAIR: &[u8] =
+    b"network 1\nnode s -inf 2 +inf\nnode t -5\narc a s t 0 2 4 5 10\n";
 
 /// The arc takes 3 of 5.
 const NARROW: &[u8] = b"network 1\nnode s 5\nnode t -5\narc a s t 0 1 3\n";

@@ -117,7 +117,7 @@ impl Row {
 }
 
 /// The call itself, which alone knows the contract of `run`.
-fn call<L: Ledger>(
+pub(crate) fn call<L: Ledger>(
     alloc: Global,
     words: &[String],
     shelf: &mut MemoryShelf,

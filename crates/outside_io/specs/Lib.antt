@@ -7,4 +7,6 @@ pub mod Seen
 pub mod Shelf
 pub mod Sink
 pub mod StdSink
+pub mod SteadyShelf
+pub mod SteadySink
 pub mod Whole

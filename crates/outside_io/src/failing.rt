@@ -1,5 +1,5 @@
 // Which calls of a memory form are to fail.
-ghost use Rattle.std.specs.Prelude.{◌≡◌, IfOk};
+ghost use Rattle.std.specs.Prelude.{◌≡◌, [], IfOk};
 ghost use Rattle.outside_io.specs.Counts.{raised, is_listed};
 
 use std::alloc::{AllocError, Global};
@@ -18,6 +18,17 @@ impl Failing {
     {
         let listed = Vec::from_slice(alloc, fails)?;
         Ok(Failing { listed, calls: 0 })
+    }
+
+    /// No call is to fail.
+    pub(crate) fn none(alloc: Global) -> Self
+        ensures listed { result.listed.items ≡ [] }
+        ensures calls { result.calls ≡ 0 }
+    {
+        Failing {
+            listed: Vec::new(alloc),
+            calls: 0,
+        }
     }
 
     /// Counts one call, and says whether it is to fail.

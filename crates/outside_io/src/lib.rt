@@ -1,6 +1,6 @@
 //! The outside of the program: a source of named files, a sink of bytes, and the two calls that go whole through
 //! them. A program runs over `FileShelf` and `StdSink`; a test runs over the memory forms, whose failing calls it
-//! chooses.
+//! chooses, or over the steady forms, which fail only where a sink's room is used up.
 #![tactic(auto)]
 
 mod byte_text;
@@ -12,6 +12,8 @@ mod memory_sink;
 mod shelf;
 mod sink;
 mod std_sink;
+mod steady_shelf;
+mod steady_sink;
 mod whole;
 
 pub use byte_text::ByteText;
@@ -21,6 +23,8 @@ pub use memory_sink::MemorySink;
 pub use shelf::{Got, Opened, Shelf};
 pub use sink::{Put, Sink};
 pub use std_sink::StdSink;
+pub use steady_shelf::SteadyShelf;
+pub use steady_sink::SteadySink;
 pub use whole::{ReadAns, Written, read_file, write_all};
 
 #[cfg(test)]

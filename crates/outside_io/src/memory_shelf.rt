@@ -1,5 +1,5 @@
 // A source of files in memory, whose failing calls are chosen.
-ghost use Rattle.std.specs.Prelude.{◌≡◌, ℕ, ◌<◌, List, length, IfOk, OnOk, OnErr, Some, None, IsTrue, false, nat_eq, if◌then◌else◌};
+ghost use Rattle.std.specs.Prelude.{◌≡◌, ℕ, ◌-◌, ◌^◌, ◌<◌, List, [], length, IfOk, OnOk, OnErr, Some, None, IsTrue, false, nat_eq, if◌then◌else◌};
 ghost use Rattle.std.specs.Cmp.Lexicographic.{pointwise};
 ghost use Rattle.outside_io.specs.Files.{file_of, with_file};
 ghost use Rattle.outside_io.specs.MemoryShelf.{no_memory_files, StartsIn, ReadsIn};
@@ -66,6 +66,21 @@ impl MemoryShelf {
             faults: 0,
             misses: 0,
         })
+    }
+
+    /// A source that holds no file, of which no call fails, and whose reads move all that there is room for.
+    pub(crate) fn unfailing(alloc: Global) -> Self
+        ensures fresh { result ≡ no_memory_files [] (2 ^ 64 - 1) }
+        ensures empty { (name : List ℕ) → file_of result.holds name ≡ None }
+    {
+        MemoryShelf {
+            files: Vec::new(alloc),
+            place: None,
+            failing: Failing::none(alloc),
+            most: usize::MAX,
+            faults: 0,
+            misses: 0,
+        }
     }
 
     /// Adds one file. It is not one of the calls that are counted.

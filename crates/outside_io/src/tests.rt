@@ -121,6 +121,41 @@ fn a_text_is_written_whole_or_to_a_front(rt: HostRuntime) -> Result<(), Fail> {
 }
 
 #[test]
+fn a_steady_shelf_reads_what_it_holds(rt: HostRuntime) -> Result<(), Fail> {
+    let mut shelf = SteadyShelf::of(rt.alloc());
+    shelf.put("six", b"abcdef")?;
+    shelf.put("long", LONG.as_slice())?;
+    let rows: [(&str, usize, &[u8]); 5] = [
+        ("six", 6, b"abcdef"),
+        ("six", 5, b"too long"),
+        ("seven", 6, b"missing"),
+        ("long", 10_000, LONG.as_slice()),
+        ("long", 9_999, b"too long"),
+    ];
+    for (name, most, want) in rows {
+        let answer = read_file(rt.alloc(), &mut shelf, name, most);
+        assert!(rt; shown(&answer) == want, "{name} at most {most}");
+    }
+    Ok(())
+}
+
+#[test]
+fn a_steady_sink_takes_what_there_is_room_for(rt: HostRuntime) -> Result<(), Fail> {
+    let rows: [(&[u8], usize, Written, &[u8]); 4] = [
+        (b"abcdef", 7, Written::All, b"abcdef"),
+        (b"abcdef", 6, Written::All, b"abcdef"),
+        (b"abcdef", 5, Written::Fault, b"abcde"),
+        (b"abcdef", 0, Written::Fault, b""),
+    ];
+    for (text, room, want, bytes) in rows {
+        let mut sink = SteadySink::of(rt.alloc(), room)?;
+        assert_eq!(rt; write_all(&mut sink, text), want, "room for {room}");
+        assert_eq!(rt; sink.bytes(), bytes, "room for {room}");
+    }
+    Ok(())
+}
+
+#[test]
 fn a_real_file_is_read_whole(rt: HostRuntime) -> Result<(), Fail> {
     let alloc = rt.alloc();
     let path = format!(in alloc; "/tmp/outside_io-{}", process::id(rt.process()))?;
