@@ -112,7 +112,9 @@ fn texts(rt: HostRuntime) -> Result<(), Fail> {
         // whole models
         (
             b"network 1\nnode s\nnode t\narc a s t -1000000000 -1000000000 0 1000000000 1000000000",
-            Ok(b"network 1\nnode s 0\nnode t 0\narc a s t -1000000000 -1000000000 0 1000000000 1000000000\n"),
+            Ok(
+                b"network 1\nnode s 0\nnode t 0\narc a s t -1000000000 -1000000000 0 1000000000 1000000000\n",
+            ),
         ),
         (
             b"# a\n\nnetwork\t1 # \xc3\xa9\r\n\tnode  n +2 03 06 base 10\r\nnode base base -4\narc arc n base -inf 3 inf base +0",

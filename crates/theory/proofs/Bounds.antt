@@ -230,10 +230,10 @@ pub all_rises-within : (m n : ℕ) (items : List Ext) (x y : ℤ) (k : ℕ) → 
 all_rises-within m n items x y k list within start end fits =
     by_lt_z y x
     (λ down.
-      let back = rises-way m n items y x k list within (omega (arith, ints)) end start fits in
-      let low = back.0 in
-      let high = back.1 in
-      rw (rises-back items x y k) (omega (arith, ints), omega (arith, ints)))
+    let back = rises-way m n items y x k list within (omega (arith, ints)) end start fits in
+    let low = back.0 in
+    let high = back.1 in
+    rw (rises-back items x y k) (omega (arith, ints), omega (arith, ints)))
     (λ up. rises-way m n items x y k list within up start end fits)
 
 -- ---- the cost up to a piece
