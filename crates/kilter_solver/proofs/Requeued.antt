@@ -2,12 +2,10 @@
 use Rattle.std.proofs.Common.{◌≡◌, ℕ, ◌+◌, ◌*◌, List, length, refl, sym, ap, ◌∙◌, subst, arith}
 use Rattle.std.proofs.lemmas.Int.{ints}
 use Rattle.theory.specs.declared.ext.Ext.{Ext}
-use Rattle.theory.specs.Cut.{holds}
 use Rattle.net_incidence.specs.Graph.{Graph}
 use Rattle.painted_search.specs.Room.{Room}
-use Rattle.painted_search.specs.Path.{label_at}
 use Rattle.painted_search.proofs.Rooms.{Lists, lists, room-same}
-use Rattle.kilter_solver.specs.Spread.{is_label, is_near, IsTried, WayTo, Spread, IsSameState, IsLater, IsSameButQueue}
+use Rattle.kilter_solver.specs.Spread.{is_near, WayTo, Spread, IsLater, IsSameButQueue}
 
 abbrev pub requeued : (u : Room) (q : List ℕ) → length q ≡ 2 * u.nodes + 1 → Room
 requeued u q long = record u { queue = q; two_slots_each = long }

@@ -1,10 +1,8 @@
 -- The queue of a search holds the nodes that were met and aren't settled: none at the beginning, one more where a step meets
 -- a node, the same ones where a step lowers a key, and one less where the first of them is settled.
-use Rattle.std.proofs.Common.{◌≡◌, ◌≢◌, ◌⊎◌, inl, inr, ℕ, ◌+◌, ◌<◌, ℤ, ◌≤ℤ◌, Bool, ◌||◌, true, false, IsTrue, List, length, refl, sym, ap, ◌∙◌, subst, ⊎_elim, arith}
-use Rattle.std.proofs.lemmas.Int.{ints}
+use Rattle.std.proofs.Common.{◌≡◌, ◌≢◌, inl, inr, ℕ, ◌+◌, ◌<◌, ℤ, Bool, ◌||◌, true, false, IsTrue, List, length, refl, sym, ap, ◌∙◌, ⊎_elim, arith}
 use Rattle.std.proofs.lemmas.Bool.{cases_eq, false≢true}
 use Rattle.theory.specs.declared.ext.Ext.{Ext}
-use Rattle.theory.specs.declared.network.NodeId.{NodeId}
 use Rattle.theory.specs.declared.network.Step.{Step}
 use Rattle.theory.specs.Cut.{holds}
 use Rattle.theory.proofs.Marks.{holds-set_same, holds-set_other}
@@ -12,9 +10,9 @@ use Rattle.net_incidence.specs.Graph.{Graph}
 use Rattle.painted_search.specs.Room.{Room}
 use Rattle.painted_search.specs.Writes.{with_mark, with_scratch, relabelled}
 use Rattle.painted_search.specs.Path.{label_at}
-use Rattle.kilter_solver.specs.Spread.{key, is_label, is_near, relaxed, IsSameButQueue, IsNearest}
-use Rattle.kilter_solver.specs.Heap.{slot, place, size, IsFilled, IsQueued, IsHeap, IsResized, IsInserted, IsDecreased, IsTaken, IsWaiting}
-use Rattle.kilter_solver.proofs.Spreading.{started, started-alone, started-root, near-done, near-below}
+use Rattle.kilter_solver.specs.Spread.{is_label, is_near, relaxed, IsSameButQueue, IsNearest}
+use Rattle.kilter_solver.specs.Heap.{slot, size, IsQueued, IsHeap, IsResized, IsInserted, IsDecreased, IsTaken, IsWaiting}
+use Rattle.kilter_solver.proofs.Spreading.{started, started-alone, started-root}
 use Rattle.kilter_solver.proofs.Requeued.{near-same}
 use Rattle.kilter_solver.proofs.Relaxing.{relaxed-near, relaxed-nears}
 use Rattle.kilter_solver.proofs.Heaps.{first-least}

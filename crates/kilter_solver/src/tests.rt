@@ -77,13 +77,19 @@ fn balanced<L: Ledger>(
     Ok((found, work))
 }
 
+// Up to 5 units, each at the price.
+fn up_to_five(price: i64) -> [Ext; 3] {
+    [Ext::At(0), Ext::At(price), Ext::At(5)]
+}
+
 #[test]
 fn finds_optimal_pairs_and_cuts(rt: HostRuntime) -> Result<(), Fail> {
-    // Up to 2 units at a price of 1, 5 or -4 each; no less than 3 or 4 units; any flow.
+    // Up to 2 units at a price of 1, 5 or -4 each; no less than 3, 1 or 4 units; any flow.
     let cheap = [Ext::At(0), Ext::At(1), Ext::At(2)];
     let dear = [Ext::At(0), Ext::At(5), Ext::At(2)];
     let paid = [Ext::At(0), Ext::At(-4), Ext::At(2)];
     let three = [Ext::At(3), Ext::At(0), Ext::PlusInf];
+    let one = [Ext::At(1), Ext::At(0), Ext::PlusInf];
     let four = [Ext::At(4), Ext::At(0), Ext::PlusInf];
     let wide = [Ext::At(0), Ext::At(1), Ext::At(999_999)];
     let million = [Ext::At(1_000_000), Ext::At(0), Ext::PlusInf];
@@ -128,6 +134,36 @@ fn finds_optimal_pairs_and_cuts(rt: HostRuntime) -> Result<(), Fail> {
             [three, any].as_slice(),
             [3, -3].as_slice(),
             [0, 0].as_slice(),
+        ),
+        // One unit to each node: two of them are met at once, and then nearer over the others.
+        (
+            4,
+            [
+                (0, 1),
+                (0, 2),
+                (0, 3),
+                (1, 2),
+                (1, 3),
+                (2, 3),
+                (1, 0),
+                (2, 0),
+                (3, 0),
+            ]
+            .as_slice(),
+            [
+                up_to_five(1),
+                up_to_five(4),
+                up_to_five(9),
+                up_to_five(2),
+                up_to_five(6),
+                up_to_five(1),
+                one,
+                one,
+                one,
+            ]
+            .as_slice(),
+            [3, 0, 0, 2, 0, 1, 1, 1, 1].as_slice(),
+            [0, 1, 3, 4].as_slice(),
         ),
     ] {
         let net = net_of(&rt, nodes, arcs)?;

@@ -1,7 +1,7 @@
-use Rattle.std.proofs.Common.{◌≡◌, ◌+◌, ◌<◌, sym, ap, ◌∙◌, subst, to_z-of_z, arith}
+use Rattle.std.proofs.Common.{◌≡◌, ◌+◌, sym, ap, ◌∙◌, subst, to_z-of_z, arith}
 use Rattle.painted_search.specs.Room.{Room}
 use Rattle.painted_search.specs.Writes.{with_scratch}
-use Rattle.kilter_solver.specs.Heap.{size, IsHeapUpTo, IsPut, IsResized}
+use Rattle.kilter_solver.specs.Heap.{IsHeapUpTo, IsPut, IsResized}
 use Rattle.kilter_solver.proofs.Heaps.{room-for, inserted-heap}
 use Rattle.kilter_solver.proofs.heap.insert.Goals as goal
 

@@ -18,7 +18,7 @@ loop-low-preserved c =
     let swapped = c.swap.ensures.swapped in
     let less : slot_key v low ≤ℤ slot_key v p = omega (arith, ints, c.slot_key.ensures, c.slot_key-in-loop-low.ensures, c.if-slot_key.false) in
     record {
-      heap = risen v w p low heap.filled first second swapped heap left right less;
+      heap = risen v w p low heap.filled c.swap.ensures.filled first second swapped heap left right less;
       there = omega (arith, swapped.many);
       shuffled = shuffled-further c.args.work.now v w c.loop-low.invariant.shuffled c.swap.ensures.shuffled;
     }

@@ -41,8 +41,9 @@ returns-in-Some g c =
     let all = step-tried net (g.B.Bundle.lists c.args.self.now.bundle.now) c.args.source.0 c.args.step work c.improve.new.work
     c.in-Some.price c.offer-offer.result c.requires.ready c.requires.there c.requires.spread waits c.in-Some.ensures.price offer
     (subst (λ z. IsImproved work c.improve.new.work (end_of (bare net) c.args.step) c.args.step z) (to_z-of_z fits)
-    (subst (λ n. IsImproved work c.improve.new.work n c.args.step (to_z w64 (of_z w64 c.offer-offer.result))) is_end c.improve.ensures)) in
+    (subst (λ n. IsImproved work c.improve.new.work n c.args.step (to_z w64 (of_z w64 c.offer-offer.result))) is_end c.improve.ensures.improved)) in
     record {
+      queue = c.improve.ensures.queue;
       spread = all.spread;
       later = all.later;
       tried = all.tried;

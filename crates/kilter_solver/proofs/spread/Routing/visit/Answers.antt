@@ -6,6 +6,14 @@ use Rattle.kilter_solver.proofs.Spreading.{ready-same, spread-closed}
 use Rattle.kilter_solver.proofs.Relaxing.{later-further, tried-later}
 use Rattle.kilter_solver.proofs.spread.Routing.visit.Goals as goal
 
+pub try_step-requires-clause-spread : goal.try_step-requires-clause-spread
+try_step-requires-clause-spread g c =
+    let net = c.args.self.now.net.now in
+    let lists = g.B.Bundle.lists c.args.self.now.bundle.now in
+    let there : c.loop-step.step-index < length c.steps-step-items.result.now = omega arith in
+    subst (λ (i : ℕ). Spread net lists c.args.source.0 i c.loop-step.work) (sym (c.steps-step-items.ensures.begin c.loop-step.step-index there))
+    c.loop-step.invariant.spread
+
 pub loop-step-preserved : goal.loop-step-preserved
 loop-step-preserved g c =
     let net = c.args.self.now.net.now in
