@@ -7,3 +7,6 @@ pub mod OpenPath
 -- Laws of tensions:
 pub mod TensionBound
 pub mod Lifting
+-- How they are found:
+pub mod Augmenting
+pub mod Cuts
