@@ -10,3 +10,6 @@ pub mod Lifting
 -- How they are found:
 pub mod Augmenting
 pub mod Cuts
+pub mod Slacks
+pub mod Climbing
+pub mod Lifts

@@ -9,3 +9,5 @@ pub mod TensionLaws
 pub mod Paintings
 pub mod Augmenting
 pub mod Lifting
+pub mod Slack
+pub mod Climbing

@@ -5,5 +5,9 @@ mod capacities;
 mod endless;
 mod flow;
 pub mod laws;
+mod raising;
+mod tension;
+mod tight;
 
 pub use flow::{FlowTop, greatest_flow};
+pub use tension::{TensionTop, greatest_tension};
