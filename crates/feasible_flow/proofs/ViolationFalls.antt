@@ -30,7 +30,7 @@ use Rattle.feasible_flow.proofs.Sending.{divergence-sent, length-sent, sent-here
 -- ---- sums
 
 -- where no term grows and one falls by t, so does the sum
-total_below-falls : (n i t : ℕ) (f g : ℕ → ℕ) → i < n → ((k : ℕ) → g k ≤ f k) → g i + t ≤ f i
+pub total_below-falls : (n i t : ℕ) (f g : ℕ → ℕ) → i < n → ((k : ℕ) → g k ≤ f k) → g i + t ≤ f i
     → total_below n g + t ≤ total_below n f
 total_below-falls zero i t f g l less falls = absurd (omega arith)
 total_below-falls (suc n) i t f g l less falls =

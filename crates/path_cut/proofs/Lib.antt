@@ -7,3 +7,9 @@ pub mod OpenPath
 -- Laws of tensions:
 pub mod TensionBound
 pub mod Lifting
+-- How they are found:
+pub mod Augmenting
+pub mod Cuts
+pub mod Slacks
+pub mod Climbing
+pub mod Lifts

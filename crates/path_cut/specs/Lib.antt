@@ -5,4 +5,9 @@ pub mod GreatestTension
 -- Its laws:
 pub mod FlowLaws
 pub mod TensionLaws
+-- How it is found:
+pub mod Paintings
+pub mod Augmenting
 pub mod Lifting
+pub mod Slack
+pub mod Climbing
