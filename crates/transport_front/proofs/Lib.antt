@@ -1,6 +1,10 @@
+-- The law:
 pub mod Prices
 pub mod Lists
 pub mod Compiled
 pub mod Flows
 pub mod Shortages
 pub mod Law
+-- The table of the code:
+pub mod Keeping
+pub mod RowLemmas

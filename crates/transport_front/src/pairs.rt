@@ -6,7 +6,8 @@ ghost use Rattle.model_text.specs.LineParts.{texts};
 ghost use Rattle.model_text.specs.ModelText.{is_over};
 ghost use Rattle.model_text.specs.NearNumbers.{near_number};
 ghost use Rattle.model_text.specs.NumberWords.{number_of};
-ghost use Rattle.transport_front.specs.TableText.{pair_tests, demand_tests, demand_of, lacks_number, numbers, pairs_of, are_wrong_sizes, has_fall};
+ghost use Rattle.transport_front.specs.TableText.{pair_tests, demand_tests, demand_of, lacks_number, numbers, pairs_of, are_wrong_sizes};
+ghost use Rattle.transport_front.specs.Table.{has_fall};
 ghost use Rattle.transport_front.specs.declared.fault.TableWord.TheVariants.{Number, Limit};
 ghost use Rattle.transport_front.specs.Reading.{Passes};
 
