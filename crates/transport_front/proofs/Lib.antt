@@ -8,3 +8,7 @@ pub mod Law
 -- The table of the code:
 pub mod Keeping
 pub mod RowLemmas
+-- The text:
+pub mod PartLemmas
+pub mod NumberLemmas
+pub mod PairLemmas

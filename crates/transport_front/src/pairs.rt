@@ -56,17 +56,17 @@ fn paired(alloc: Global, listed: &[i64]) -> Result<Vec<Pair>, Refusal>
     ensures pairs { IfOk result (λ pairs. pairs.items ≡ pairs_of listed.now) }
 {
     let mut pairs = Vec::new(alloc);
-    let mut total: i64 = 0;
+    let mut total: u32 = 0;
     let mut rest = listed;
     while let [size, price, after @ ..] = rest {
-        if *size < 1 || *size > NUMBER_MOST - total {
+        if *size < 1 || *size > NUMBER_MOST - i64::from(total) {
             return Err(Refusal::Fault(TableWord::Limit));
         }
-        total += *size;
         let pair = Pair {
             size: *size as u32,
             price: *price,
         };
+        total += pair.size;
         if pairs.push(pair).is_err() {
             return Err(Refusal::NoMemory);
         }
