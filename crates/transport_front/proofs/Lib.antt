@@ -12,3 +12,6 @@ pub mod RowLemmas
 pub mod PartLemmas
 pub mod NumberLemmas
 pub mod PairLemmas
+-- The model:
+pub mod CurveLemmas
+pub mod BuildLemmas

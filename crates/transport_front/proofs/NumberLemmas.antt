@@ -1,17 +1,18 @@
 -- Words that are numbers, read one after the other; and one number alone. What is kept of a number beyond the limit shows that it is.
-use Rattle.std.specs.Prelude.{◌≡◌, ℕ, suc, ◌+◌, ◌<◌, min, ℤ, pos, negsuc, neg_ℤ, int_lt, Bool, true, false, ◌||◌, is_none, unwrap_or, if◌then◌else◌, Option, None, Some, List, [], ◌∷◌, ◌++◌, length, drop, map, refl}
-use Rattle.std.proofs.Common.{arith, get_or, sym, ◌∙◌, ap, append_assoc}
+use Rattle.std.specs.Prelude.{◌≡◌, ℕ, zero, suc, ◌+◌, ◌<◌, min, ℤ, pos, negsuc, neg_ℤ, int_lt, Bool, true, false, ◌||◌, is_none, unwrap_or, if◌then◌else◌, Option, None, Some, List, [], ◌∷◌, ◌++◌, length, drop, map, refl}
+use Rattle.std.proofs.Common.{arith, get_or, sym, ◌∙◌, ap, subst, append_assoc}
 use Rattle.std.specs.Borrow.{Bor}
 use Rattle.std.specs.List.{list_any}
 use Rattle.std.specs.Option.{option_map}
 use Rattle.std.proofs.lemmas.List.{drop_more}
-use Rattle.theory.specs.Limits.{number_most}
+use Rattle.std.proofs.lemmas.Int.{ints}
+use Rattle.theory.specs.Limits.{number_most, IsWithin}
 use Rattle.model_text.specs.LineParts.{texts}
 use Rattle.model_text.specs.ModelText.{is_over}
 use Rattle.model_text.specs.NearNumbers.{near_number}
 use Rattle.model_text.specs.NumberWords.{number_of}
 use Rattle.model_text.proofs.EntryLemmas.{near-over, near-exact}
-use Rattle.model_text.proofs.ListTests.{neither}
+use Rattle.model_text.proofs.ListTests.{neither, false-unless}
 use Rattle.transport_front.specs.declared.fault.TableWord.{TableWord}
 use Rattle.transport_front.specs.declared.fault.TableWord.TheVariants.{Number, Limit}
 use Rattle.transport_front.specs.TableText.{first_fault, lacks_number, numbers, demand_tests}
@@ -66,6 +67,15 @@ list-passes words passes = rw (sym (lacks-texts words) ∙ passes) refl
 
 -- ---- numbers beyond the limit
 
+near-within : (z : ℤ) → IsWithin (number_most + 1) (near_number z)
+near-within (pos n) = (omega (arith, ints), omega (arith, ints))
+near-within (negsuc n) = (omega (arith, ints), omega (arith, ints))
+
+-- what is kept of a number is a machine number
+pub kept-within : (found : Option ℤ) (z : ℤ) → option_map near_number found ≡ Some z → IsWithin (number_most + 1) z
+kept-within None z is = cc
+kept-within (Some x) z is = let same : near_number x ≡ z = cc in subst (IsWithin (number_most + 1)) same (near-within x)
+
 pub near-any : (listed : List ℤ) → list_any is_over (map near_number listed) ≡ list_any is_over listed
 near-any [] = refl
 near-any (z ∷ listed) = rw (near-over z, near-any listed) refl
@@ -76,8 +86,11 @@ near-all (z ∷ listed) within =
     let two = neither (is_over z) (list_any is_over listed) within in
     ap (λ x. x ∷ map near_number listed) (near-exact z two.0) ∙ ap (λ rest. z ∷ rest) (near-all listed two.1)
 
+not-below : (m : ℕ) → int_lt (pos m) (pos 0) ≡ false
+not-below m = false-unless (int_lt (pos m) (pos 0)) (λ below. omega (arith, ints))
+
 near-sign : (z : ℤ) → int_lt (near_number z) (pos 0) ≡ int_lt z (pos 0)
-near-sign (pos n) = refl
+near-sign (pos n) = not-below (min n (number_most + 1)) ∙ sym (not-below n)
 near-sign (negsuc n) =
     let more : min (n + 1) (number_most + 1) ≡ suc (min n number_most) = omega arith in
     ap (λ m. int_lt (neg_ℤ (pos m)) (pos 0)) more

@@ -52,6 +52,7 @@ fn numbers_of(alloc: Global, words: &[&[u8]]) -> Result<Vec<i64>, Refusal>
 
 /// Two numbers at a time, where the sizes are right.
 fn paired(alloc: Global, listed: &[i64]) -> Result<Vec<Pair>, Refusal>
+    requires { list_any is_over listed.now ≡ false }
     ensures tests { Passes ((are_wrong_sizes (pairs_of listed.now), Limit) ∷ []) result }
     ensures pairs { IfOk result (λ pairs. pairs.items ≡ pairs_of listed.now) }
 {
@@ -67,10 +68,10 @@ fn paired(alloc: Global, listed: &[i64]) -> Result<Vec<Pair>, Refusal>
             price: *price,
         };
         total += pair.size;
-        if pairs.push(pair).is_err() {
-            return Err(Refusal::NoMemory);
+        match pairs.push(pair) {
+            Ok(()) => rest = after,
+            Err(_) => return Err(Refusal::NoMemory),
         }
-        rest = after;
     }
     Ok(pairs)
 }
