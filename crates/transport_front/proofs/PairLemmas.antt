@@ -163,3 +163,7 @@ within-two (size ∷ price ∷ rest) d e two within =
 
 pub within-number : (z : ℤ) → is_over z ≡ false → IsWithin number_most z
 within-number z within = let most : unsigned_abs z ≤ number_most = grind (arith, nat_tests) in within_abs number_most z most
+
+pub abs_positive : (z : ℤ) → pos 1 ≤ℤ z → unsigned_abs z ≡ positive_part z
+abs_positive (pos n) some = refl
+abs_positive (negsuc n) some = absurd (omega (arith, ints))

@@ -1,4 +1,4 @@
-use Rattle.std.proofs.Common.{◌≡◌, true, false, arith, sym, ◌∙◌, refl, ap, pos, to_z, of_z, w64}
+use Rattle.std.proofs.Common.{◌≡◌, true, false, arith, sym, ◌∙◌, refl, ap, pos, ◌<ℤ◌, to_z, of_z, w64}
 use Rattle.std.specs.Prelude.{int_lt, ◌||◌}
 use Rattle.std.proofs.lemmas.Int.{ints}
 use Rattle.model_text.specs.ModelText.{is_over}
@@ -18,7 +18,8 @@ returns-then-is_over-clause-tests c =
     elim c.then-is_over.branch [
       then-is_over-via-then-is_over w ↦ told ∙ rw (over ∙ w.if-is_over.true) refl
       | then-is_over-via-else-is_over+then-demand-lt0 w ↦
-          let below : int_lt c.in-Some.demand (pos 0) ≡ true = omega (arith, ints) in
+          let less : c.in-Some.demand <ℤ pos 0 = omega (arith, ints) in
+          let below : int_lt c.in-Some.demand (pos 0) ≡ true = sym less in
           told ∙ rw (over ∙ w.if-is_over.false, below) refl
     ]
 
