@@ -42,8 +42,8 @@ new_name : (names : List (List ℕ)) (i : ℕ) → AreNames names → i < length
 new_name names i are there =
     no_place (get_or names i []) (take i names)
     (λ k below. (
-        let before : k < i = omega (arith, length-take-le i names) in
-        subst (λ (other : List ℕ). other ≢ get_or names i []) (sym (get_or-take i names k [] before)) (are.differ k i [] before there)))
+    let before : k < i = omega (arith, length-take-le i names) in
+    subst (λ (other : List ℕ). other ≢ get_or names i []) (sym (get_or-take i names k [] before)) (are.differ k i [] before there)))
 
 node-names : (places : List Place) → map (λ (node : NodeEntry). node.name) (map place_node places) ≡ map (λ (place : Place). place.name) places
 node-names [] = refl

@@ -17,7 +17,6 @@ use Rattle.transport_front.proofs.Lists.{sum_below-parts}
 abbrev pub network : Table → Network
 network t = grounded (compiled t)
 
-
 pub plant_no_shop : (kind : Kind) → is_plant kind ≡ true → is_shop kind ≡ true → ⊥
 plant_no_shop (plant pairs) one other = cc
 plant_no_shop (shop demand) one other = cc

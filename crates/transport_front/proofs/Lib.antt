@@ -12,6 +12,8 @@ pub mod RowLemmas
 pub mod PartLemmas
 pub mod NumberLemmas
 pub mod PairLemmas
+pub mod EntryLemmas
+pub mod ReadLemmas
 -- The model:
 pub mod CurveLemmas
 pub mod BuildLemmas

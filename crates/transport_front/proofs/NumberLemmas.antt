@@ -1,5 +1,5 @@
 -- Words that are numbers, read one after the other; and one number alone. What is kept of a number beyond the limit shows that it is.
-use Rattle.std.specs.Prelude.{◌≡◌, ℕ, zero, suc, ◌+◌, ◌<◌, min, ℤ, pos, negsuc, neg_ℤ, int_lt, Bool, true, false, ◌||◌, is_none, unwrap_or, if◌then◌else◌, Option, None, Some, List, [], ◌∷◌, ◌++◌, length, drop, map, refl}
+use Rattle.std.specs.Prelude.{◌≡◌, ℕ, zero, suc, ◌+◌, ◌<◌, min, ℤ, pos, negsuc, neg_ℤ, ◌<ℤ◌, int_lt, Bool, true, false, ◌||◌, is_none, unwrap_or, if◌then◌else◌, Option, None, Some, List, [], ◌∷◌, ◌++◌, length, drop, map, refl}
 use Rattle.std.proofs.Common.{arith, get_or, sym, ◌∙◌, ap, subst, append_assoc}
 use Rattle.std.specs.Borrow.{Bor}
 use Rattle.std.specs.List.{list_any}
@@ -7,6 +7,7 @@ use Rattle.std.specs.Option.{option_map}
 use Rattle.std.proofs.lemmas.List.{drop_more}
 use Rattle.std.proofs.lemmas.Int.{ints}
 use Rattle.theory.specs.Limits.{number_most, IsWithin}
+use Rattle.theory.proofs.Shape.{less_in}
 use Rattle.model_text.specs.LineParts.{texts}
 use Rattle.model_text.specs.ModelText.{is_over}
 use Rattle.model_text.specs.NearNumbers.{near_number}
@@ -88,6 +89,9 @@ near-all (z ∷ listed) within =
 
 not-below : (m : ℕ) → int_lt (pos m) (pos 0) ≡ false
 not-below m = false-unless (int_lt (pos m) (pos 0)) (λ below. omega (arith, ints))
+
+pub is_below_zero : (z : ℤ) → z <ℤ pos 0 → int_lt z (pos 0) ≡ true
+is_below_zero z below = less_in z (pos 0) below
 
 near-sign : (z : ℤ) → int_lt (near_number z) (pos 0) ≡ int_lt z (pos 0)
 near-sign (pos n) = not-below (min n (number_most + 1)) ∙ sym (not-below n)

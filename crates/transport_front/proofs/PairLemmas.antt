@@ -96,7 +96,7 @@ sizes_right pairs none most =
 
 -- ---- words that are pairs, by the numbers that are kept of them
 
-length-pairs_of : (listed : List ℤ) → length (pairs_of listed) ≡ length listed / 2
+pub length-pairs_of : (listed : List ℤ) → length (pairs_of listed) ≡ length listed / 2
 length-pairs_of [] = refl
 length-pairs_of (size ∷ []) = refl
 length-pairs_of (size ∷ price ∷ rest) = let e = length-pairs_of rest in omega arith
@@ -109,7 +109,7 @@ pub is_even : (n : ℕ) → 0 < n → n % 2 ≢ 1 → is_odd_or_none n ≡ false
 is_even n some even = grind (arith, nat_tests)
 
 module _ (words : List (List ℕ)) (listed : List ℤ) (is : listed ≡ map near_number (numbers words)) (all : first_fault ((lacks_number words, Number) ∷ []) ≡ None)
-  (even : is_odd_or_none (length listed) ≡ false) where
+    (even : is_odd_or_none (length listed) ≡ false) where
   counted-same : length words ≡ length listed
   counted-same = sym (ap length is ∙ length-map (numbers words) near_number ∙ length-map words (λ word. unwrap_or (number_of word) (pos 0)))
 

@@ -65,12 +65,7 @@ fn add_node(model: &mut Model, name: Name, supply: Curve) -> Result<(), AllocErr
 }
 
 /// Only for want of memory can that fail.
-fn add_arc(
-    model: &mut Model,
-    name: Name,
-    ends: (u32, u32),
-    curve: Curve,
-) -> Result<(), AllocError>
+fn add_arc(model: &mut Model, name: Name, ends: (u32, u32), curve: Curve) -> Result<(), AllocError>
     requires free { arc_fault model.old.entries name.bytes ends.0 ends.1 ≡ None }
     requires tail { ends.0 < length model.old.entries.nodes }
     requires head { ends.1 < length model.old.entries.nodes }

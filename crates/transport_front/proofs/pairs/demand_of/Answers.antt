@@ -3,7 +3,7 @@ use Rattle.std.specs.Prelude.{int_lt, ◌||◌}
 use Rattle.std.proofs.lemmas.Int.{ints}
 use Rattle.model_text.specs.ModelText.{is_over}
 use Rattle.model_text.proofs.ListTests.{false-unless}
-use Rattle.transport_front.proofs.NumberLemmas.{demand_told, kept-within}
+use Rattle.transport_front.proofs.NumberLemmas.{demand_told, kept-within, is_below_zero}
 use Rattle.transport_front.proofs.pairs.demand_of.Goals as goal
 use Rattle.transport_front.proofs.pairs.demand_of.Goals.{then-is_over-via-then-is_over, then-is_over-via-else-is_over+then-demand-lt0}
 
@@ -16,10 +16,10 @@ returns-then-is_over-clause-tests c =
     let passed : to_z w64 (of_z w64 c.in-Some.demand) ≡ c.in-Some.demand = omega (arith, ints) in
     let over = ap is_over (sym passed) ∙ sym c.is_over.ensures in
     elim c.then-is_over.branch [
-      then-is_over-via-then-is_over w ↦ told ∙ rw (over ∙ w.if-is_over.true) refl
+      | then-is_over-via-then-is_over w ↦ told ∙ rw (over ∙ w.if-is_over.true) refl
       | then-is_over-via-else-is_over+then-demand-lt0 w ↦
           let less : c.in-Some.demand <ℤ pos 0 = omega (arith, ints) in
-          let below : int_lt c.in-Some.demand (pos 0) ≡ true = sym less in
+          let below : int_lt c.in-Some.demand (pos 0) ≡ true = is_below_zero c.in-Some.demand less in
           told ∙ rw (over ∙ w.if-is_over.false, below) refl
     ]
 

@@ -12,7 +12,7 @@ use Rattle.transport_front.proofs.pairs.paired.Goals.{then-size-lt1-via-then-siz
 pub returns-then-size-lt1-clause-tests : goal.returns-then-size-lt1-clause-tests
 returns-then-size-lt1-clause-tests c =
     elim c.then-size-lt1.branch [
-      then-size-lt1-via-then-size-lt1 w ↦ size_below c.args.listed.now c.loop-rest.rest.now c.loop-rest.pairs.items (pos 0) (pos 0) (omega arith) c.loop-rest.invariant.joined (omega (arith, ints))
+      | then-size-lt1-via-then-size-lt1 w ↦ size_below c.args.listed.now c.loop-rest.rest.now c.loop-rest.pairs.items (pos 0) (pos 0) (omega arith) c.loop-rest.invariant.joined (omega (arith, ints))
       | then-size-lt1-via-else-size-lt1+then-size-from w ↦
           size_over c.args.listed.now c.loop-rest.rest.now c.loop-rest.pairs.items (pos 0) (pos 0) (omega arith) c.loop-rest.invariant.joined (omega (arith, ints))
           (omega (arith, ints, c.loop-rest.invariant.total))

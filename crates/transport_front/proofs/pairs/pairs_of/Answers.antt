@@ -18,7 +18,7 @@ returns-then-are_over-clause-tests c =
     let even = is_even (length listed) some (λ odd. grind (arith, nat_tests, c.in_ok-listed.listed.ok.0)) in
     let over = c.are_over.ensures ∙ ap (list_any is_over) c.deref.ensures.value in
     elim c.then-are_over.branch [
-      then-are_over-via-then-are_over w ↦ over_told words listed c.in_ok-listed.ensures.numbers c.in_ok-listed.ensures.tests even (sym over ∙ w.if-are_over.true)
+      | then-are_over-via-then-are_over w ↦ over_told words listed c.in_ok-listed.ensures.numbers c.in_ok-listed.ensures.tests even (sym over ∙ w.if-are_over.true)
       | then-are_over-via-else-are_over+then-len-gt-PAIRS_MOST w ↦
           many_told words listed c.in_ok-listed.ensures.numbers c.in_ok-listed.ensures.tests even (sym over ∙ w.if-are_over.false) (grind (arith, nat_tests, c.in_ok-listed.listed.ok.0))
     ]

@@ -20,8 +20,7 @@ invariant_of-self-inside c =
     let none = free _ _ key.items _ c.requires.free c.into_vec.ensures (ap (λ m. lane_names m.table) c.self.view_is) in
     let room : length lanes < arcs_most = omega (arith, c.requires.room, length-map lanes lane_row, ap (λ m. length m.table.lanes) c.self.view_is) in
     let joined = subst (λ name. IsLane (rows_table places lanes).places (record { name = name; from = lane.from; to = lane.to; pairs = lane.pairs.items })) (sym c.into_vec.ensures)
-    (subst (λ m. IsLane m.table.places (record { name = c.args.name.bytes; from = lane.from; to = lane.to; pairs = lane.pairs.items })) (sym c.self.view_is) c.requires.joined) in
-    (
+    (subst (λ m. IsLane m.table.places (record { name = c.args.name.bytes; from = lane.from; to = lane.to; pairs = lane.pairs.items })) (sym c.self.view_is) c.requires.joined) in (
       either_way (λ rows. IsTable (rows_table places rows)) c.insert.result lanes _ _ c.insert.ensures.entries c.insert.ensures.err c.self.inside.kept
           (lane_keeps places lanes key lane c.self.inside.kept (subst IsName (sym c.into_vec.ensures) c.args.name.named) none room joined),
       tt,

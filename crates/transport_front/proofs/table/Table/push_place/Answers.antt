@@ -17,8 +17,7 @@ invariant_of-self-inside c =
     let lanes = c.self.inside.lanes.entries in
     let key = c.into_vec.result in
     let none = free _ _ key.items _ c.requires.free c.into_vec.ensures (ap (λ m. place_names m.table) c.self.view_is) in
-    let room : length places < nodes_most = omega (arith, c.requires.room, length-map places place_row, ap (λ m. length m.table.places) c.self.view_is) in
-    (
+    let room : length places < nodes_most = omega (arith, c.requires.room, length-map places place_row, ap (λ m. length m.table.places) c.self.view_is) in (
       either_way (λ rows. IsTable (rows_table rows lanes)) c.insert.result places _ _ c.insert.ensures.entries c.insert.ensures.err c.self.inside.kept
           (place_keeps places lanes key c.args.kind c.self.inside.kept (subst IsName (sym c.into_vec.ensures) c.args.name.named) none room c.requires.kind),
       tt,
