@@ -10,7 +10,7 @@ use Rattle.model_text.specs.Model.{no_entries, node_names, arc_names, place_of, 
 use Rattle.theory.specs.Limits.{nodes_most, arcs_most}
 use Rattle.model_text.proofs.Places.{absent}
 
-names_push : (names : List (List ℕ)) (name : List ℕ) → AreNames names → IsName name → place_of names name ≡ None → AreNames (names ++ name ∷ [])
+pub names_push : (names : List (List ℕ)) (name : List ℕ) → AreNames names → IsName name → place_of names name ≡ None → AreNames (names ++ name ∷ [])
 names_push names name are named none = record {
   each = All-push IsName names name are.each named;
   differ = all_pairs_push (λ a b. a ≢ b) names name are.differ (λ k d here. absent names name none k d here);

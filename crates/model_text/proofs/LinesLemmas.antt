@@ -73,7 +73,7 @@ module _ (lines : List (List ℕ)) (k : ℕ) (line : List ℕ) (others : List (L
   pub left-after : drop (k + 1) lines ≡ others
   left-after = let both = there in cc
 
-  front-after : take (k + 1) lines ≡ take k lines ++ line ∷ []
+  pub front-after : take (k + 1) lines ≡ take k lines ++ line ∷ []
   front-after = (take_at_read lines k [] here).1 ∙ ap (λ l. take k lines ++ l ∷ []) line-is
 
   pub entries-after : entries_of (take (k + 1) lines) ≡ with_line (entries_of (take k lines)) (line_words line)

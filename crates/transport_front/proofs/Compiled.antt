@@ -17,7 +17,6 @@ use Rattle.transport_front.proofs.Lists.{sum_below-parts}
 abbrev pub network : Table → Network
 network t = grounded (compiled t)
 
-
 pub plant_no_shop : (kind : Kind) → is_plant kind ≡ true → is_shop kind ≡ true → ⊥
 plant_no_shop (plant pairs) one other = cc
 plant_no_shop (shop demand) one other = cc
@@ -83,24 +82,24 @@ module _ (t : Table) where
   module _ (kept : IsTable t) where
     pub apart : (k : ℕ) → k < length t.lanes → (lane_at t k).from ≢ (lane_at t k).to
     apart k there same =
-        plant_no_shop (kind_at t (lane_at t k).to) (subst (λ i. is_plant (kind_at t i) ≡ true) same (kept.joined k there).from_plant) (kept.joined k there).to_shop
+        plant_no_shop (kind_at t (lane_at t k).to) (subst (λ i. is_plant (kind_at t i) ≡ true) same (kept.joined k (record { name = []; from = 0; to = 0; pairs = [] }) there).from_plant) (kept.joined k (record { name = []; from = 0; to = 0; pairs = [] }) there).to_shop
 
     pub is_model : IsModel (compiled t)
     is_model = record {
       supplies = λ i d there. (
           let here : i < length t.places = omega (arith, nodes-are) in
-          subst (λ (node : NodeEntry). IsCurveList node.supply.items) (sym (node-is i d here)) (kind_list (kind_at t i) (kept.kinds i here)));
+          subst (λ (node : NodeEntry). IsCurveList node.supply.items) (sym (node-is i d here)) (kind_list (kind_at t i) (kept.kinds i (record { name = []; kind = shop 0 }) here)));
       curves = λ j d there. (
           let here : j < length t.lanes = omega (arith, arcs-are) in
-          subst (λ (arc : ArcEntry). IsCurveList arc.curve.items) (sym (arc-is j d here)) (priced_list (lane_at t j).pairs (kept.joined j here).pairs));
+          subst (λ (arc : ArcEntry). IsCurveList arc.curve.items) (sym (arc-is j d here)) (priced_list (lane_at t j).pairs (kept.joined j (record { name = []; from = 0; to = 0; pairs = [] }) here).pairs));
       tails = λ j d there. (
           let here : j < length t.lanes = omega (arith, arcs-are) in
           let is = ap (λ (arc : ArcEntry). arc.from) (arc-is j d here) in
-          omega (arith, nodes-are, (kept.joined j here).tail));
+          omega (arith, nodes-are, (kept.joined j (record { name = []; from = 0; to = 0; pairs = [] }) here).tail));
       heads = λ j d there. (
           let here : j < length t.lanes = omega (arith, arcs-are) in
           let is = ap (λ (arc : ArcEntry). arc.to) (arc-is j d here) in
-          omega (arith, nodes-are, (kept.joined j here).head));
+          omega (arith, nodes-are, (kept.joined j (record { name = []; from = 0; to = 0; pairs = [] }) here).head));
       no_loops = λ j d there. (
           let here : j < length t.lanes = omega (arith, arcs-are) in
           subst (λ (arc : ArcEntry). arc.from ≢ arc.to) (sym (arc-is j d here)) (apart j here));

@@ -57,12 +57,12 @@ module _ (t : Table) where
   pub no_in : (kept : IsTable t) (z : List ℤ) (i : ℕ) → is_plant (kind_at t i) ≡ true → brought t z i ≡ pos 0
   no_in kept z i is = sum_below-zero (length t.lanes) (λ k. counted ((lane_at t k).to == i) («at» z k))
       (λ k there. counted-never ((lane_at t k).to == i) («at» z k)
-      (λ same. plant_no_shop (kind_at t i) is (subst (λ n. is_shop (kind_at t n) ≡ true) (same-is (lane_at t k).to i same) (kept.joined k there).to_shop)))
+      (λ same. plant_no_shop (kind_at t i) is (subst (λ n. is_shop (kind_at t n) ≡ true) (same-is (lane_at t k).to i same) (kept.joined k (record { name = []; from = 0; to = 0; pairs = [] }) there).to_shop)))
 
   pub no_out : (kept : IsTable t) (z : List ℤ) (i : ℕ) → is_shop (kind_at t i) ≡ true → taken t z i ≡ pos 0
   no_out kept z i is = sum_below-zero (length t.lanes) (λ k. counted ((lane_at t k).from == i) («at» z k))
       (λ k there. counted-never ((lane_at t k).from == i) («at» z k)
-      (λ same. plant_no_shop (kind_at t i) (subst (λ n. is_plant (kind_at t n) ≡ true) (same-is (lane_at t k).from i same) (kept.joined k there).from_plant) is))
+      (λ same. plant_no_shop (kind_at t i) (subst (λ n. is_plant (kind_at t n) ≡ true) (same-is (lane_at t k).from i same) (kept.joined k (record { name = []; from = 0; to = 0; pairs = [] }) there).from_plant) is))
 
   -- ---- a flow is a plan
 

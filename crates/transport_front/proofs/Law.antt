@@ -14,8 +14,7 @@ use Rattle.transport_front.proofs.Shortages.{cut_is_shortage, no_circuit}
 
 pub transport_law : TransportLaw
 transport_law t (optimal x u cost value) kept valid =
-    let says = certificate_says (network t) (optimal x u cost value) (is_network t kept) valid in
-    (
+    let says = certificate_says (network t) (optimal x u cost value) (is_network t kept) valid in (
       record {
         plan = flow_is_plan t kept 1 x says.flow;
         cost_is = sym (drop_cost t kept 1 x says.flow) ∙ sym valid.right.0;

@@ -1,7 +1,9 @@
 -- The cost of a list of pairs is its price, pair by pair. The rest point is 0, since the list begins there, and each piece moves 0 to
 -- its beginning: so what the cost rises by along the piece is the pair's price times the part of the amount within it.
-use Rattle.std.proofs.Common.{◌≡◌, ℕ, zero, suc, ◌+◌, ◌<◌, ◌≤◌, ℤ, pos, ◌+ℤ◌, ◌-ℤ◌, ◌*ℤ◌, neg_ℤ, ◌≤ℤ◌, ◌<ℤ◌, true, false, List, [], ◌∷◌, length, slice_index_or, refl, sym, ap, ap₂, ◌∙◌, subst, arith}
+use Rattle.std.proofs.Common.{◌≡◌, ℕ, zero, suc, ◌+◌, ◌<◌, ◌≤◌, ℤ, pos, ◌+ℤ◌, ◌-ℤ◌, ◌*ℤ◌, neg_ℤ, ◌≤ℤ◌, ◌<ℤ◌, Bool, true, false, not, List, [], ◌∷◌, length, slice_index_or, refl, sym, ap, ap₂, ◌∙◌, subst, arith}
+use Rattle.std.specs.Prelude.{int_lt}
 use Rattle.std.specs.Int.{int_min, int_max}
+use Rattle.model_text.proofs.ListTests.{neither}
 use Rattle.std.proofs.lemmas.Int.{ints, clamps}
 use Rattle.theory.specs.declared.ext.Ext.{Ext}
 use Rattle.theory.specs.declared.ext.Ext.TheVariants.{At}
@@ -15,7 +17,7 @@ use Rattle.theory.proofs.Shape.{Rest, less_in, place_of_shape}
 use Rattle.theory.proofs.Shape.Rest.{ends, goes_on}
 use Rattle.theory.proofs.Shape.Shape.{single, long}
 use Rattle.transport_front.specs.declared.pair.Pair.{Pair}
-use Rattle.transport_front.specs.Table.{Kind, size_of, is_plant, is_shop, after, priced, listed, supply_items, PricesRise, ArePairs, IsKind}
+use Rattle.transport_front.specs.Table.{Kind, size_of, is_plant, is_shop, after, priced, listed, supply_items, has_fall, ArePairs, IsKind}
 use Rattle.transport_front.specs.Table.Kind.{plant, shop}
 use Rattle.transport_front.specs.Plan.{part, price_from, price, place_cost, IsServed}
 
@@ -93,13 +95,24 @@ place_domain q (shop demand) x out into balance no_in no_out some served =
 
 -- ---- a curve list
 
-rest_shape : (r : Pair) (before : ℕ) (ps : List Pair) → PricesRise (r ∷ ps) → ((k : ℕ) (d : Pair) → k < length ps → 1 ≤ (slice_index_or ps k d).size)
+rises : (r p : Pair) (ps : List Pair) → has_fall (r ∷ p ∷ ps) ≡ false → (r.price <ℤ p.price) × (has_fall (p ∷ ps) ≡ false)
+rises r p ps none =
+    let two = neither (not (int_lt r.price p.price)) (has_fall (p ∷ ps)) none in
+    let less = not-false (int_lt r.price p.price) two.0 in
+    (omega (arith, ints), two.1)
+  where
+    not-false : (b : Bool) → not b ≡ false → b ≡ true
+    not-false true is = refl
+    not-false false is = cc
+
+rest_shape : (r : Pair) (before : ℕ) (ps : List Pair) → has_fall (r ∷ ps) ≡ false → ((k : ℕ) (d : Pair) → k < length ps → 1 ≤ (slice_index_or ps k d).size)
     → Rest r.price (At (pos before)) (after before ps)
 rest_shape r before [] rise sizes = ends
 rest_shape r before (p ∷ ps) rise sizes =
     let some = sizes 0 p (omega arith) in
-    goes_on rise.0 (less_in (pos before) (pos (before + p.size)) (omega (arith, ints)))
-    (rest_shape p (before + p.size) ps rise.1 (λ k d there. sizes (suc k) d (omega arith)))
+    let two = rises r p ps rise in
+    goes_on two.0 (less_in (pos before) (pos (before + p.size)) (omega (arith, ints)))
+    (rest_shape p (before + p.size) ps two.1 (λ k d there. sizes (suc k) d (omega arith)))
 
 pub priced_list : (pairs : List Pair) → ArePairs pairs → IsCurveList (priced pairs)
 priced_list [] are = absurd (omega (arith, are.some))
@@ -109,5 +122,5 @@ priced_list (p ∷ ps) are =
     (rest_shape p (0 + p.size) ps are.rise (λ k d there. are.sizes (suc k) d (omega arith))))
 
 pub kind_list : (kind : Kind) → IsKind kind → IsCurveList (supply_items kind)
-kind_list (plant pairs) are = priced_list pairs are
+kind_list (plant pairs) are = priced_list pairs (are.pairs refl)
 kind_list (shop demand) are = place_of_shape single

@@ -68,9 +68,9 @@ module _ (t : Table) (side : List Bool) where
       let parts = arcs_parts t (λ j. whole (cut_end (network t) side j)) in
       let front = sum_below-same (length t.places) (λ j. whole (cut_end (network t) side j)) (λ i. neg_ℤ (counted (outside side i) (wanted (kind_at t i))))
       (λ i there. (
-          let e = place_end i there ∙ ap (λ a. added a (holds side (i + 1)) (supply_items (kind_at t i))) holds_it in
-          let f = place_added (holds side (i + 1)) (kind_at t i) in
-          omega (arith, ints))) in
+      let e = place_end i there ∙ ap (λ a. added a (holds side (i + 1)) (supply_items (kind_at t i))) holds_it in
+      let f = place_added (holds side (i + 1)) (kind_at t i) in
+      omega (arith, ints))) in
       let turned = negated_sum (length t.places) (λ i. counted (outside side i) (wanted (kind_at t i))) in
       let back = sum_below-same (length t.lanes)
       (λ k. whole (cut_end (network t) side (length t.places + k)))

@@ -1,5 +1,6 @@
 -- A table as its lines list it: plants and shops, which are its places, and the lanes between them.
-use Rattle.std.specs.Prelude.{◌≡◌, ◌≢◌, ℕ, ◌+◌, ◌≤◌, ◌<◌, ℤ, ◌<ℤ◌, pos, neg_ℤ, Bool, true, false, List, [], ◌∷◌, ◌++◌, map, length, slice_index_or, All, IsTrue}
+use Rattle.std.specs.Prelude.{◌≡◌, ℕ, ◌+◌, ◌≤◌, ◌<◌, ℤ, pos, neg_ℤ, int_lt, Bool, true, false, not, List, [], ◌∷◌, map, length, drop, slice_index_or}
+use Rattle.std.specs.List.{list_any, zip}
 use Rattle.theory.specs.declared.ext.Ext.{Ext}
 use Rattle.theory.specs.declared.ext.Ext.TheVariants.{At}
 use Rattle.theory.specs.CurveList.{Listing}
@@ -61,11 +62,9 @@ lane_names t = map (λ lane. lane.name) t.lanes
 
 -- ---- what every table keeps
 
--- each price is above the one before it
-abbrev pub PricesRise : List Pair → Type 0
-PricesRise [] = Unit {0}
-PricesRise (p ∷ []) = Unit {0}
-PricesRise (p ∷ r ∷ ps) = (p.price <ℤ r.price) × PricesRise (r ∷ ps)
+-- a price isn't above the price before it
+abbrev pub has_fall : List Pair → Bool
+has_fall pairs = list_any (λ two. not (int_lt two.0.price two.1.price)) (zip pairs (drop 1 pairs))
 
 pub record ArePairs (pairs : List Pair) : Type 0 where
   pub some : 1 ≤ length pairs
@@ -73,11 +72,20 @@ pub record ArePairs (pairs : List Pair) : Type 0 where
   pub sizes : (k : ℕ) (d : Pair) → k < length pairs → 1 ≤ (slice_index_or pairs k d).size
   pub total : size_of pairs ≤ number_most
   pub prices : (k : ℕ) (d : Pair) → k < length pairs → IsWithin number_most (slice_index_or pairs k d).price
-  pub rise : PricesRise pairs
+  pub rise : has_fall pairs ≡ false
 
-abbrev pub IsKind : Kind → Type 0
-IsKind (plant pairs) = ArePairs pairs
-IsKind (shop demand) = demand ≤ number_most
+-- the pairs of a plant, the demand of a shop
+abbrev pub pairs_in : Kind → List Pair
+pairs_in (plant pairs) = pairs
+pairs_in (shop demand) = []
+
+abbrev pub demand_in : Kind → ℕ
+demand_in (plant pairs) = 0
+demand_in (shop demand) = demand
+
+pub record IsKind (kind : Kind) : Type 0 where
+  pub pairs : is_plant kind ≡ true → ArePairs (pairs_in kind)
+  pub demand : demand_in kind ≤ number_most
 
 -- a lane runs from a plant to a shop
 pub record IsLane (places : List Place) (lane : Lane) : Type 0 where
@@ -92,8 +100,8 @@ pub record IsTable (t : Table) : Type 0 where
   pub few_lanes : length t.lanes ≤ arcs_most
   pub places_named : AreNames (place_names t)
   pub lanes_named : AreNames (lane_names t)
-  pub kinds : (i : ℕ) → i < length t.places → IsKind (kind_at t i)
-  pub joined : (j : ℕ) → j < length t.lanes → IsLane t.places (lane_at t j)
+  pub kinds : (i : ℕ) (d : Place) → i < length t.places → IsKind (slice_index_or t.places i d).kind
+  pub joined : (j : ℕ) (d : Lane) → j < length t.lanes → IsLane t.places (slice_index_or t.lanes j d)
 
 -- what a clause sees of a table: its lists, and what they keep
 pub record Kept : Type 0 where

@@ -2,7 +2,7 @@
 -- numbers are those of a model text. The tests of a line are a list in order; a line is tested against the table that the lines before it
 -- have made.
 use Rattle.std.specs.Prelude.{◌≡◌, ℕ, ◌+◌, ◌%◌, ◌<◌, ◌==◌, nat_lt, nat_le, int_lt, ℤ, pos, Bool, true, false, not, ◌&&◌, ◌||◌, if◌then◌else◌, Option, None, Some, is_some, is_none, unwrap_or, List, [], ◌∷◌, ◌++◌, length, take, drop, map, slice_index_or, codes, IsTrue}
-use Rattle.std.specs.List.{list_any, list_all, fold, zip}
+use Rattle.std.specs.List.{list_any, list_all, fold}
 use Rattle.std.specs.Str.{bytes_eq, is_utf8}
 use Rattle.theory.specs.Limits.{number_most, nodes_most, arcs_most}
 use Rattle.theory.specs.Sums.{positive_part}
@@ -14,7 +14,7 @@ use Rattle.model_text.specs.NumberWords.{number_of}
 use Rattle.transport_front.specs.declared.fault.TableWord.{TableWord}
 use Rattle.transport_front.specs.declared.fault.TableWord.TheVariants.{Utf8, Header, Keyword, Name, Number, Limit, Order, Twice, Unknown}
 use Rattle.transport_front.specs.declared.pair.Pair.{Pair}
-use Rattle.transport_front.specs.Table.{Kind, Place, Lane, Table, pairs_most, size_of, is_plant, is_shop, kind_at, place_names, lane_names}
+use Rattle.transport_front.specs.Table.{Kind, Place, Lane, Table, pairs_most, size_of, has_fall, is_plant, is_shop, kind_at, place_names, lane_names}
 use Rattle.transport_front.specs.Table.Kind.{plant, shop}
 
 -- ---- the parts of a line: `plant NAME PAIRS`, `shop NAME DEMAND`, `lane NAME PLANT SHOP PAIRS`
@@ -109,10 +109,6 @@ is_no_demand (word ∷ other ∷ words) = true
 
 abbrev pub demand_tests : List (List ℕ) → List (Bool × TableWord)
 demand_tests words = (is_no_demand words, Number) ∷ (is_over (demand_of words) || int_lt (demand_of words) (pos 0), Limit) ∷ []
-
--- a price isn't above the price before it
-abbrev pub has_fall : List Pair → Bool
-has_fall pairs = list_any (λ two. not (int_lt two.0.price two.1.price)) (zip pairs (drop 1 pairs))
 
 abbrev pub has_all_places : Table → Bool
 has_all_places t = nat_le nodes_most (length t.places)

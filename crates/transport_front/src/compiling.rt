@@ -1,8 +1,8 @@
 // The model that a table stands for.
-ghost use Rattle.std.specs.Prelude.{◌≡◌, [], ◌∷◌, map, IfOk, OnOk};
-ghost use Rattle.theory.specs.Limits.{IsWithin, number_most};
+ghost use Rattle.std.specs.Prelude.{◌≡◌, ◌≤◌, ◌<◌, [], ◌∷◌, None, pos, length, map, IfOk, OnOk};
+ghost use Rattle.theory.specs.Limits.{IsWithin, number_most, list_most};
 ghost use Rattle.theory.specs.declared.ext.Ext.{Ext as Item};
-ghost use Rattle.model_text.specs.Model.{no_entries};
+ghost use Rattle.model_text.specs.Model.{no_entries, node_fault, arc_fault, with_node, with_arc};
 ghost use Rattle.model_text.specs.Names.{IsName};
 ghost use Rattle.transport_front.specs.Table.{ArePairs, IsKind, compiled, place_node, priced, listed, supply_items};
 ghost use Rattle.transport_front.specs.Rows.{kind_of};
@@ -32,11 +32,7 @@ fn add_nodes(alloc: Global, model: &mut Model, t: &Table) -> Result<(), AllocErr
     for i in 0..t.places() {
         let name = name_of(alloc, t.place_name(i))?;
         let supply = supply_of(alloc, t.kind(i))?;
-        match model.add_node(name, supply) {
-            Ok(_) => {}
-            Err(AddFault::NoMemory) => return Err(AllocError),
-            Err(_) => unreachable!(),
-        }
+        add_node(model, name, supply)?;
     }
     Ok(())
 }
@@ -49,13 +45,39 @@ fn add_arcs(alloc: Global, model: &mut Model, t: &Table) -> Result<(), AllocErro
         let name = name_of(alloc, t.lane_name(j))?;
         let lane = t.lane(j);
         let curve = curve_of(alloc, &lane.pairs)?;
-        match model.add_arc(name, lane.from, lane.to, curve) {
-            Ok(_) => {}
-            Err(AddFault::NoMemory) => return Err(AllocError),
-            Err(_) => unreachable!(),
-        }
+        add_arc(model, name, (lane.from, lane.to), curve)?;
     }
     Ok(())
+}
+
+/// Only for want of memory can that fail.
+fn add_node(model: &mut Model, name: Name, supply: Curve) -> Result<(), AllocError>
+    requires free { node_fault model.old.entries name.bytes ≡ None }
+    requires short { length supply.listing.items ≤ list_most }
+    requires base { supply.listing.base ≡ pos 0 }
+    ensures { OnOk result (model.new.entries ≡ with_node model.old.entries name.bytes supply.listing) }
+{
+    match model.add_node(name, supply) {
+        Ok(_) => Ok(()),
+        Err(AddFault::NoMemory) => Err(AllocError),
+        Err(_) => unreachable!(),
+    }
+}
+
+/// Only for want of memory can that fail.
+fn add_arc(model: &mut Model, name: Name, ends: (u32, u32), curve: Curve) -> Result<(), AllocError>
+    requires free { arc_fault model.old.entries name.bytes ends.0 ends.1 ≡ None }
+    requires tail { ends.0 < length model.old.entries.nodes }
+    requires head { ends.1 < length model.old.entries.nodes }
+    requires short { length curve.listing.items ≤ list_most }
+    requires base { curve.listing.base ≡ pos 0 }
+    ensures { OnOk result (model.new.entries ≡ with_arc model.old.entries name.bytes ends.0 ends.1 curve.listing) }
+{
+    match model.add_arc(name, ends.0, ends.1, curve) {
+        Ok(_) => Ok(()),
+        Err(AddFault::NoMemory) => Err(AllocError),
+        Err(_) => unreachable!(),
+    }
 }
 
 fn name_of(alloc: Global, bytes: &[u8]) -> Result<Name, AllocError>

@@ -21,11 +21,7 @@ use model_text::{ARCS_MOST, NODES_MOST, Name, NameFault, are_same};
 use std::alloc::Global;
 
 /// Adds what the line is to the table, where it passes the tests.
-pub(crate) fn read_entry(
-    alloc: Global,
-    table: &mut Table,
-    words: &[&[u8]],
-) -> Result<(), Refusal>
+pub(crate) fn read_entry(alloc: Global, table: &mut Table, words: &[&[u8]]) -> Result<(), Refusal>
     ensures tests { Passes (entry_tests table.old.table (texts words.now)) result }
     ensures added { OnOk result (table.new.table ≡ with_line table.old.table (texts words.now)) }
 {

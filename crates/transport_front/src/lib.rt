@@ -9,6 +9,8 @@ mod pairs;
 mod parts;
 mod read;
 mod table;
+#[cfg(test)]
+mod tests;
 pub mod transport_laws;
 
 pub use compiling::compile;

@@ -6,7 +6,8 @@ ghost use Rattle.model_text.specs.LineParts.{texts};
 ghost use Rattle.model_text.specs.ModelText.{is_over};
 ghost use Rattle.model_text.specs.NearNumbers.{near_number};
 ghost use Rattle.model_text.specs.NumberWords.{number_of};
-ghost use Rattle.transport_front.specs.TableText.{pair_tests, demand_tests, demand_of, lacks_number, numbers, pairs_of, are_wrong_sizes, has_fall};
+ghost use Rattle.transport_front.specs.TableText.{pair_tests, demand_tests, demand_of, lacks_number, numbers, pairs_of, are_wrong_sizes};
+ghost use Rattle.transport_front.specs.Table.{has_fall};
 ghost use Rattle.transport_front.specs.declared.fault.TableWord.TheVariants.{Number, Limit};
 ghost use Rattle.transport_front.specs.Reading.{Passes};
 
@@ -51,25 +52,26 @@ fn numbers_of(alloc: Global, words: &[&[u8]]) -> Result<Vec<i64>, Refusal>
 
 /// Two numbers at a time, where the sizes are right.
 fn paired(alloc: Global, listed: &[i64]) -> Result<Vec<Pair>, Refusal>
+    requires { list_any is_over listed.now ≡ false }
     ensures tests { Passes ((are_wrong_sizes (pairs_of listed.now), Limit) ∷ []) result }
     ensures pairs { IfOk result (λ pairs. pairs.items ≡ pairs_of listed.now) }
 {
     let mut pairs = Vec::new(alloc);
-    let mut total: i64 = 0;
+    let mut total: u32 = 0;
     let mut rest = listed;
     while let [size, price, after @ ..] = rest {
-        if *size < 1 || *size > NUMBER_MOST - total {
+        if *size < 1 || *size > NUMBER_MOST - i64::from(total) {
             return Err(Refusal::Fault(TableWord::Limit));
         }
-        total += *size;
         let pair = Pair {
             size: *size as u32,
             price: *price,
         };
-        if pairs.push(pair).is_err() {
-            return Err(Refusal::NoMemory);
+        total += pair.size;
+        match pairs.push(pair) {
+            Ok(()) => rest = after,
+            Err(_) => return Err(Refusal::NoMemory),
         }
-        rest = after;
     }
     Ok(pairs)
 }
