@@ -175,6 +175,15 @@ def write_without_end(sandbox):
     return meanwhile
 
 
+def from_standard_input(sandbox):
+    reader, writer = os.pipe()
+    os.write(writer, EMPTY)
+    os.close(writer)
+    ended = solved(sandbox, "/dev/stdin", stdin=reader)
+    os.close(reader)
+    return ended
+
+
 FILES = {
     "the file isn't there": lambda box: solved(box, "nowhere"),
     "its name is empty": lambda box: solved(box, ""),
@@ -186,6 +195,7 @@ FILES = {
     "there is no permission to read it": without_permission,
     "a read of it fails": lambda box: solved(box, "/proc/self/mem"),
     "it is empty, as `/dev/null` is": lambda box: solved(box, "/dev/null"),
+    "it is `/dev/stdin`, a pipe": from_standard_input,
     "it has just as many bytes as are allowed": lambda box: filled(box, file_most()),
     "it has one byte more": lambda box: filled(box, file_most() + 1),
     "it is a device that never ends": lambda box: solved(box, "/dev/zero"),

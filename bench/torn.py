@@ -61,8 +61,8 @@ class Sandbox:
 
     def start(self, words, output, **options):
         """Starts the program with no environment but what is given."""
-        options.setdefault("env", {})
-        return subprocess.Popen([self.program, *words], cwd=self.folder, stdin=subprocess.DEVNULL, stdout=output, stderr=subprocess.DEVNULL, **options)
+        options = {"env": {}, "stdin": subprocess.DEVNULL, **options}
+        return subprocess.Popen([self.program, *words], cwd=self.folder, stdout=output, stderr=subprocess.DEVNULL, **options)
 
     def run(self, words, limit=20, **options):
         """Runs it to its end, with a file for its output."""
