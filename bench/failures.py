@@ -15,7 +15,7 @@ import sys
 import time
 
 from programs import TOP, build_program
-from torn import CERTIFICATE, COMMANDS, MODEL, Sandbox, Tally, waited
+from torn import CERTIFICATE, COMMANDS, MODEL, Sandbox, Tally, large_model, waited
 
 FORMATS = os.path.join(TOP, "docs", "FORMATS.md")
 LIMITS = os.path.join(TOP, "crates", "theory", "specs", "Limits.antt")
@@ -24,7 +24,6 @@ NOBODY = 65534
 EMPTY = b"network 1\n"
 EMPTY_SOLVED = b"certificate 1 optimal\ncost 0\nvalue 0\n"
 USAGE = b"usage: monotropic COMMAND WORDS\n"
-NAME = "n" * 60
 
 
 def file_most():
@@ -175,6 +174,15 @@ def write_without_end(sandbox):
     return meanwhile
 
 
+def from_standard_input(sandbox):
+    reader, writer = os.pipe()
+    os.write(writer, EMPTY)
+    os.close(writer)
+    ended = solved(sandbox, "/dev/stdin", stdin=reader)
+    os.close(reader)
+    return ended
+
+
 FILES = {
     "the file isn't there": lambda box: solved(box, "nowhere"),
     "its name is empty": lambda box: solved(box, ""),
@@ -186,6 +194,7 @@ FILES = {
     "there is no permission to read it": without_permission,
     "a read of it fails": lambda box: solved(box, "/proc/self/mem"),
     "it is empty, as `/dev/null` is": lambda box: solved(box, "/dev/null"),
+    "it is `/dev/stdin`, a pipe": from_standard_input,
     "it has just as many bytes as are allowed": lambda box: filled(box, file_most()),
     "it has one byte more": lambda box: filled(box, file_most() + 1),
     "it is a device that never ends": lambda box: solved(box, "/dev/zero"),
@@ -240,13 +249,6 @@ def to_limited(sandbox):
         return status, written.read()
 
 
-def put_large(sandbox):
-    """A model whose text and answer are longer than a pipe holds."""
-    nodes = b"".join(b"node %s%04d\n" % (NAME.encode(), k) for k in range(1000))
-    arcs = b"".join(b"arc %s%04d %s%04d %s%04d 0 1 9\n" % (b"a" * 60, k, NAME.encode(), k % 1000, NAME.encode(), (k * 7 + 1) % 1000) for k in range(4000) if k % 1000 != (k * 7 + 1) % 1000)
-    sandbox.put("large", EMPTY + nodes + arcs)
-
-
 def to_pipe(sandbox, length, options):
     """The reader takes so many bytes and goes; with 0 it is gone before."""
     reader, writer = os.pipe()
@@ -284,7 +286,7 @@ OUTPUTS = {
 
 
 def compare_outputs(sandbox, tally, rows):
-    put_large(sandbox)
+    sandbox.put("large", large_model())
     wholes = {name: solved(sandbox, name).written for name in ("model", "large")}
     tally.require("the large answer fits into a pipe", len(wholes["large"]) > 200_000)
     for row, make in OUTPUTS.items():

@@ -23,6 +23,17 @@ COMMANDS = (
 )
 
 
+def large_model():
+    """A model whose answer is longer than a pipe holds: 1,000 nodes and nearly 4,000 arcs with long names."""
+    nodes = ["n" * 60 + f"{k:04}" for k in range(1000)]
+    lines = ["network 1"] + [f"node {node}" for node in nodes]
+    for k in range(4000):
+        begin, end = nodes[k % 1000], nodes[(k * 7 + 1) % 1000]
+        if begin != end:
+            lines.append("arc " + "a" * 60 + f"{k:04} {begin} {end} 0 1 9")
+    return "\n".join(lines + [""]).encode()
+
+
 class Ended:
     """An exit status, negative for a signal and None where the run met its limit; what was written; how many calls of each kind."""
 
@@ -61,8 +72,8 @@ class Sandbox:
 
     def start(self, words, output, **options):
         """Starts the program with no environment but what is given."""
-        options.setdefault("env", {})
-        return subprocess.Popen([self.program, *words], cwd=self.folder, stdin=subprocess.DEVNULL, stdout=output, stderr=subprocess.DEVNULL, **options)
+        options = {"env": {}, "stdin": subprocess.DEVNULL, **options}
+        return subprocess.Popen([self.program, *words], cwd=self.folder, stdout=output, stderr=subprocess.DEVNULL, **options)
 
     def run(self, words, limit=20, **options):
         """Runs it to its end, with a file for its output."""

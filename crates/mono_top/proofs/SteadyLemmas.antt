@@ -19,7 +19,7 @@ pub none_missing : (files : Files) (Opens : List ℕ → Type 0) (names : List (
     → AllHeld files names → Reaches Opens (λ name. file_of files name ≡ None) names → ⊥
 none_missing files Opens [] held reaches = reaches
 none_missing files Opens (name ∷ names) held (inl missing) = absurd (cc (sym held.0.1 ∙ missing))
-none_missing files Opens (name ∷ names) held (inr (open, later)) = none_missing files Opens names held.1 later
+none_missing files Opens (name ∷ names) held (inr (passed, later)) = none_missing files Opens names held.1 later
 
 -- of the bytes of a readable file, fewer are there to be taken
 short_enough : (bytes taken left : List ℕ) → length bytes ≤ file_most → length taken ≡ file_most + 1 → Some bytes ≡ Some (taken ++ left) → ⊥
@@ -31,7 +31,7 @@ pub none_too_long : (files : Files) (Opens : List ℕ → Type 0) (rest : Option
 none_too_long files Opens rest [] readable reaches = reaches
 none_too_long files Opens rest (name ∷ names) readable (inl (taken, left, long, is, behind)) =
     short_enough readable.0.0 taken left readable.0.2 long (sym readable.0.1 ∙ is)
-none_too_long files Opens rest (name ∷ names) readable (inr (open, later)) = none_too_long files Opens rest names readable.1 later
+none_too_long files Opens rest (name ∷ names) readable (inr (passed, later)) = none_too_long files Opens rest names readable.1 later
 
 pub none_in_part : (request : Option Request) (old new : Seen) (before after : Option (List ℕ)) (room : ℕ)
     → HasRoom request old room → Moves old new → ¬ Rose old.faults new.faults
