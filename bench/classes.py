@@ -1,9 +1,10 @@
 """The classes of models that are measured. Each is a function of draws; `CLASSES` names them all.
 
-All but the small ones have 2,000 nodes or 10,000 arcs, the limits of a model. Where a class is to have a plan, a ring of arcs
+All but the small ones have 2,000 nodes or 10,000 arcs; `limits` has those at the limits of a model. Where a class is to have a plan, a ring of arcs
 that take any amount either way keeps it feasible.
 """
 
+import limits
 from curves import DOWN, UP, around, both_ways, short, stairs
 from model import Model
 from parts import arcs_between, balanced, name_of, nodes_of, ring_around, ring_round, two_places
@@ -323,4 +324,12 @@ CLASSES = [
     ("no bound, hidden", 30, no_bound_hidden, False),
     ("doubling", 31, doubling, False),
     ("zadeh 18", 32, zadeh(18), True),
+    ("limits: short", 41, limits.short_curves, False),
+    ("limits: long", 42, limits.long_curves, False),
+    ("limits: no ends", 43, limits.no_ends, False),
+    ("limits: grid", 44, grid(100, 100, scattered, 20), False),
+    ("limits: ring", 45, limits.ring, False),
+    ("limits: path", 46, limits.path, False),
+    ("limits: lanes", 47, limits.lanes(200, 1000, 40), False),
+    ("limits: numbers", 48, limits.numbers, False),
 ]

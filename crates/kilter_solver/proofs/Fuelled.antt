@@ -1,5 +1,5 @@
 -- Readings of a solve that begins with a draw. A unit of the bound is `L + 1` times `m (m + 1) (n + 3)`, and the fuel of a draw at most 100 times
--- that. With 20 levels the bound has 336 of them: 100 for the draw, 126 for six units of the passes; a test of what was drawn and a
+-- that. With 30 levels the bound has 496 of them: 100 for the draw, 186 for six units of the passes; a test of what was drawn and a
 -- round over nodes and arcs take less than one each.
 use Rattle.std.proofs.Common.{◌≡◌, ℕ, zero, suc, ◌+◌, ◌*◌, ◌≤◌, arith}
 use Rattle.theory.specs.Limits.{level_most}

@@ -1,5 +1,5 @@
 -- Ranges: how large the numbers of the balancing may become, so that every sum fits 64 bits. A flow of a certificate is within
--- 10 ^ 15 < 2 ^ 50, a potential within 2001 * 10 ^ 6 < 2 ^ 31; there are at most 10 ^ 6 < 2 ^ 20 nodes and as many arcs. Each
+-- 10 ^ 15 < 2 ^ 50, a potential within 10001 * 10 ^ 9 < 2 ^ 44; there are at most 10 ^ 6 < 2 ^ 20 nodes and as many arcs. Each
 -- range is stated with the sum that leads to the next.
 use Rattle.std.specs.Prelude.{ℕ, ◌^◌}
 
@@ -7,7 +7,7 @@ use Rattle.std.specs.Prelude.{ℕ, ◌^◌}
 abbrev pub shift_most : ℕ
 shift_most = 2 ^ 40
 
--- potentials where routes begin; they fall by at most 2 * 10 ^ 6 * 10 ^ 6 < 2 ^ 41 on the way
+-- potentials where routes begin; they fall by at most 2 * 10 ^ 6 * 10 ^ 9 < 2 ^ 51 on the way
 abbrev pub begin_most : ℕ
 begin_most = 2 ^ 58
 
