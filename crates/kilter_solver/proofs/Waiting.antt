@@ -85,8 +85,8 @@ waiting-settled v w i waiting there is taken heap =
     let near_other : (j : ℕ) → j ≢ i → is_near w j ≡ is_near v j =
     (λ j other. near-same m w j taken.same ∙ ap (λ (b : Bool). b || is_label (label_at v.labels j)) (holds-set_other v.reached i j other)) in
     let before : (j : ℕ) → IsQueued w j → IsQueued v j = λ j queued. (
-      let q = ((taken.held j).0 queued).0 in
-      record { within = q.within; is = q.is }) in
+    let q = ((taken.held j).0 queued).0 in
+    record { within = q.within; is = q.is }) in
     let other : (j : ℕ) → IsQueued w j → j ≢ i = λ j queued e. ((taken.held j).0 queued).1 (e ∙ is) in
     record {
       heap = heap;
