@@ -1,7 +1,6 @@
 // The queue of a search: a binary heap of the nodes that were met and aren't settled, the least key first. It lies in the words
 // that the room lends for a queue, and takes no memory.
-ghost use Rattle.std.specs.Prelude.{◌≡◌, ◌≢◌, ℕ, ◌+◌, ◌*◌, ◌<◌, ◌≤◌, ◌≤ℤ◌};
-ghost use Rattle.painted_search.specs.Writes.{with_queue};
+ghost use Rattle.std.specs.Prelude.{◌≡◌, ◌≢◌, ◌<◌, ◌≤◌, ◌≤ℤ◌};
 ghost use Rattle.kilter_solver.specs.Spread.{key, IsNearestOf};
 ghost use Rattle.kilter_solver.specs.Heap.{slot, place, size, slot_key, IsFilled, IsQueued, IsHeap, IsHeapUpTo, IsHeapBelow, IsLeastChildOf, IsPut, IsResized, IsSwapped, IsShuffled, IsInserted, IsDecreased, IsTaken, IsFirstOf, IsWaiting};
 

@@ -6,7 +6,7 @@ use Rattle.painted_search.specs.Room.{Room}
 use Rattle.painted_search.specs.Writes.{with_mark, with_scratch}
 use Rattle.kilter_solver.specs.Excess.{excess}
 use Rattle.kilter_solver.specs.Marks.{count_of}
-use Rattle.kilter_solver.specs.Spread.{Spread, IsSameButQueue}
+use Rattle.kilter_solver.specs.Spread.{IsSameButQueue}
 use Rattle.kilter_solver.specs.Heap.{size, IsHeap, IsResized, IsTaken}
 use Rattle.kilter_solver.proofs.Marking.{marked_total-set, marked_total-term, count-most}
 use Rattle.kilter_solver.proofs.Spreading.{started, spread-started, spread-settled}
