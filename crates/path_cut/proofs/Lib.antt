@@ -13,3 +13,6 @@ pub mod Cuts
 pub mod Slacks
 pub mod Climbing
 pub mod Lifts
+-- Whole nets:
+pub mod Same
+pub mod Returns

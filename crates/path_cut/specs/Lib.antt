@@ -5,6 +5,9 @@ pub mod GreatestTension
 -- Its laws:
 pub mod FlowLaws
 pub mod TensionLaws
+pub mod Returned
+pub mod Found
+pub mod Whole
 -- How it is found:
 pub mod Paintings
 pub mod Augmenting

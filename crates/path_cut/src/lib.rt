@@ -4,10 +4,17 @@
 mod capacities;
 mod endless;
 mod flow;
+mod flow_found;
+mod keeping;
 pub mod laws;
 mod raising;
+mod returned;
 mod tension;
+mod tension_found;
 mod tight;
 
 pub use flow::{FlowTop, greatest_flow};
+pub use flow_found::{FlowFound, flow_between};
+pub use returned::{Returned, with_return};
 pub use tension::{TensionTop, greatest_tension};
+pub use tension_found::{TensionFound, tension_between};

@@ -14,6 +14,7 @@ pub mod NumberLemmas
 pub mod PairLemmas
 pub mod EntryLemmas
 pub mod ReadLemmas
+pub mod TextLaws
 -- The model:
 pub mod CurveLemmas
 pub mod BuildLemmas

@@ -3,6 +3,7 @@ pub mod Table
 pub mod Plan
 -- Its text:
 pub mod TableText
+pub mod TableTextLaws
 pub mod Reading
 -- What the code keeps:
 pub mod Rows

@@ -11,6 +11,7 @@ mod read;
 mod table;
 #[cfg(test)]
 mod tests;
+pub mod text_laws;
 pub mod transport_laws;
 
 pub use compiling::compile;

@@ -1,0 +1,5 @@
+use Rattle.transport_front.proofs.TextLaws as law
+use Rattle.transport_front.proofs.text_laws.one_table.Goals as goal
+
+pub returns : goal.returns
+returns c = law.one_table
