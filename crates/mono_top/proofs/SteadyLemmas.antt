@@ -2,9 +2,9 @@
 -- room for each due text, none is written in part.
 use Rattle.std.proofs.Common.{◌≡◌, ℕ, ◌+◌, ◌≤◌, List, [], ◌∷◌, ◌++◌, length, length-append, Option, Some, None, refl, arith, ap, sym, ◌∙◌, inl, inr, unwrap_or}
 use Rattle.theory.specs.Limits.{file_most}
-use Rattle.outside_io.specs.Counts.{Rose}
 use Rattle.outside_io.specs.Files.{Files, file_of}
 use Rattle.outside_io.specs.Seen.{Seen, Moves, since}
+use Rattle.outside_io.specs.SteadyShelf.{SteadyFiles}
 use Rattle.mono_top.specs.Answer.{Answers}
 use Rattle.mono_top.specs.Ending.{WritesPart}
 use Rattle.mono_top.specs.Reading.{AllReadable, IsReadPastMost, Reaches}
@@ -33,8 +33,12 @@ none_too_long files Opens rest (name ∷ names) readable (inl (taken, left, long
     short_enough readable.0.0 taken left readable.0.2 long (sym readable.0.1 ∙ is)
 none_too_long files Opens rest (name ∷ names) readable (inr (passed, later)) = none_too_long files Opens rest names readable.1 later
 
-pub none_in_part : (request : Option Request) (old new : Seen) (before after : Option (List ℕ)) (room : ℕ)
-    → HasRoom request old room → Moves old new → ¬ Rose old.faults new.faults
-    → WritesPart (Answers request (since old new)) before after (Some room) → ⊥
-none_in_part request old new before after room enough moves steady (status, text, due, grew, short) =
-    omega (arith, enough new moves steady status text due, short room refl)
+-- what a steady source shows of itself
+abbrev shown : SteadyFiles → Seen
+shown s = record { holds = Some s.holds; started = s.started; rest = Some s.rest; log = None; misses = s.misses; faults = 0 }
+
+pub none_in_part : (request : Option Request) (old new : SteadyFiles) (before after : Option (List ℕ)) (room : ℕ)
+    → HasRoom request (shown old) room → Moves (shown old) (shown new)
+    → WritesPart (Answers request (since (shown old) (shown new))) before after (Some room) → ⊥
+none_in_part request old new before after room enough moves (status, text, due, grew, short) =
+    omega (arith, enough (shown new) moves (λ rose. omega (arith, rose)) status text due, short room refl)
