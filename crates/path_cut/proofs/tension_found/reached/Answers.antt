@@ -1,6 +1,7 @@
 -- Between the curves with their bases and the items alone.
-use Rattle.std.proofs.Common.{ap, ◌∙◌}
+use Rattle.std.proofs.Common.{ℤ, sym, ap, ◌∙◌, subst, rules, w64, SFits, to_z-of_z}
 use Rattle.net_incidence.specs.Graph.{network}
+use Rattle.path_cut.specs.GreatestTension.{IsPathOf}
 use Rattle.path_cut.proofs.Same.{potential-to, potential-of, path_of-of, open_cut-of}
 use Rattle.path_cut.proofs.tension_found.reached.Goals as goal
 
@@ -17,7 +18,10 @@ keep_greatest-requires-clause-feasible g c =
 pub keep_greatest-requires-clause-path : goal.keep_greatest-requires-clause-path
 keep_greatest-requires-clause-path g c =
     let is = ap (network c.net-net.result.now) c.curves-curves.ensures ∙ c.net-net.ensures in
-    path_of-of c.net-net.result.now c.curves-curves.result.now c.args.g.now.network is c.greatest_tension.new.work.walk c.args.from.0 c.args.to.0 c.in-Greatest.tension c.in-Greatest.ensures.answer.1
+    let fits : SFits w64 c.in-Greatest.tension = search rules in
+    subst (λ (t : ℤ). IsPathOf c.args.g.now.network c.greatest_tension.new.work.walk c.args.from.0 c.args.to.0 t) (sym (to_z-of_z fits))
+    (path_of-of c.net-net.result.now c.curves-curves.result.now c.args.g.now.network is c.greatest_tension.new.work.walk c.args.from.0 c.args.to.0
+    c.in-Greatest.tension c.in-Greatest.ensures.answer.1)
 
 pub keep_open-requires-clause-feasible : goal.keep_open-requires-clause-feasible
 keep_open-requires-clause-feasible g c =
