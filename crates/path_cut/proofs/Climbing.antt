@@ -325,20 +325,20 @@ module _ (g : Graph) (lists : List (List Ext)) (curves : AreCurves lists) (good 
         gained = climbing.risen.gained + room;
         few = few;
         gains_some = λ i l. (
-        let e = gain-lifted from begun u w side room i is from_there held l in
-        let old = climbing.risen.gains_some i l in
-        let more = lift-some room (holds side i) in
-        omega (arith, ints));
+            let e = gain-lifted from begun u w side room i is from_there held l in
+            let old = climbing.risen.gains_some i l in
+            let more = lift-some room (holds side i) in
+            omega (arith, ints));
         gains_most = λ i l. (
-        let e = gain-lifted from begun u w side room i is from_there held l in
-        let old = climbing.risen.gains_most i l in
-        let more = lift-most room (holds side i) in
-        omega (arith, ints));
+            let e = gain-lifted from begun u w side room i is from_there held l in
+            let old = climbing.risen.gains_most i l in
+            let more = lift-most room (holds side i) in
+            omega (arith, ints));
         outside = λ i l lacks. (
-        let e = gain-lifted from begun u w side room i is from_there held l in
-        let old = climbing.risen.outside i l lacks in
-        let more = lift-lacked room (holds side i) lacks in
-        omega (arith, ints));
+            let e = gain-lifted from begun u w side room i is from_there held l in
+            let old = climbing.risen.outside i l lacks in
+            let more = lift-lacked room (holds side i) lacks in
+            omega (arith, ints));
       }
     where
       begin-in : (g : Graph) (s : Step) → s.arc.0 < length g.arcs → begin_of (bare g) s < g.nodes

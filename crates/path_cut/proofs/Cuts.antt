@@ -61,7 +61,6 @@ below-last n m j count there apart = grind (arith)
 pub but-below : (n m : ℕ) (colours : ℕ → Colour) (j : ℕ) (forward : Bool) → m + 1 ≡ n → j < n → IsFree (but m colours j) forward → j < m
 but-below n m colours j forward count there free = below-last n m j count there (but-apart m colours j forward free)
 
-
 -- ---- endless steps
 
 endless-high : {low high : Ext} → AreEnds low high → not (is_finite high) ≡ true → high ≡ PlusInf

@@ -120,8 +120,7 @@ search-requires-in-Some-clause-ready g c =
     let risen = risen-more net lists curves good c.args.from.0 c.args.to.0 c.args.work.now.potentials u v room c.requires.passable.some_node
     c.requires.from_there c.requires.near climbing c.in-Some.ensures.least lifts in
     let within = risen-within net lists curves good c.args.from.0 c.args.work.now.potentials u v.reached c.requires.passable.some_node
-    c.requires.feasible c.requires.near risen in
-    (
+    c.requires.feasible c.requires.near risen in (
       record {
         one_curve_each = c.requires.passable.one_curve_each;
         one_flow_each = c.raise.new.work.sized.one_flow_each ∙ c.raise.ensures.same.arcs ∙ fits.same_arcs;
