@@ -195,12 +195,16 @@ fn keeps_what_is_written(rt: HostRuntime) -> Result<(), Fail> {
     words[0] = 3;
     words[5] = 4;
     assert_eq!(rt; work.potentials(), [3, 7].as_slice());
-    work.set_scratch(3, -6);
-    work.set_queue(4, 9);
-    assert_eq!(rt; (work.scratch(1), work.scratch(3)), (0, -6));
-    assert_eq!(rt; (work.queue(3), work.queue(4)), (0, 9));
-    assert_eq!(rt; work.potentials(), [3, 7].as_slice());
     work.clear_walk();
     assert_eq!(rt; work.walk_len(), 0);
+    Ok(())
+}
+
+#[test]
+fn keeps_a_queue(rt: HostRuntime) -> Result<(), Fail> {
+    let mut work = Work::take(rt.alloc(), 2, 3)?;
+    assert_eq!(rt; work.queue(4), 0);
+    work.set_queue(4, 9);
+    assert_eq!(rt; (work.queue(3), work.queue(4)), (0, 9));
     Ok(())
 }
