@@ -93,12 +93,7 @@ fn is_open<C: Monotone, L: Ledger>(
 }
 
 /// Sends along one path after the other, until a cut holds all.
-fn augment<C: Monotone, L: Ledger>(
-    net: &Net,
-    curves: &[C],
-    work: &mut Work,
-    steps: &mut Steps<L>,
-)
+fn augment<C: Monotone, L: Ledger>(net: &Net, curves: &[C], work: &mut Work, steps: &mut Steps<L>)
     requires passable { IsPassable net.now (length curves.now) }
     requires light { All (λ c. C.weight c ≡ 1) curves.now }
     requires fits { Fits net.now work.old }

@@ -33,9 +33,15 @@ pub enum FlowFound {
         side: Marks,
     },
     /// Feasible flows, and an open path.
-    Unbounded { flows: Flows, walk: Walk },
+    Unbounded {
+        flows: Flows,
+        walk: Walk,
+    },
     /// The side of a cut that refuses every flow, and its sum.
-    Refused { side: Marks, sum: i128 },
+    Refused {
+        side: Marks,
+        sum: i128,
+    },
 }
 
 /// All room is taken before the first reading, and then that of what is found.

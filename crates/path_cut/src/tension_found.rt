@@ -29,9 +29,15 @@ pub enum TensionFound {
         walk: Walk,
     },
     /// Feasible potentials, and the side of an open cut.
-    Unbounded { potentials: Flows, side: Marks },
+    Unbounded {
+        potentials: Flows,
+        side: Marks,
+    },
     /// A circuit that refuses every potential, and its span sum.
-    Refused { walk: Walk, sum: i128 },
+    Refused {
+        walk: Walk,
+        sum: i128,
+    },
 }
 
 /// All room is taken before the first reading, and then that of what is found.
