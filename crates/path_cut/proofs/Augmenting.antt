@@ -1,43 +1,35 @@
 -- Flow sent round the last arc and a path of room. Each arc's flow moves by the amount at most and stays in its domain; the last one
 -- rises by the whole amount. So no flow has ever moved further than the last one has risen, and the last one is bounded.
-use Rattle.std.proofs.Common.{◌≡◌, ◌≢◌, ℕ, zero, suc, ◌+◌, ◌*◌, ◌-◌, ◌<◌, ◌≤◌, ◌==◌, ℤ, pos, ◌+ℤ◌, ◌-ℤ◌, neg_ℤ, ◌≤ℤ◌, Bool, true, false, List, ◌∷◌, length, refl, sym, ap, ◌∙◌, subst, ⊎_elim, arith}
+use Rattle.std.proofs.Common.{◌≡◌, ◌≢◌, ℕ, zero, suc, ◌*◌, ◌<◌, ◌≤◌, ℤ, pos, ◌+ℤ◌, ◌-ℤ◌, ◌≤ℤ◌, Bool, true, false, List, ◌∷◌, length, ◌∙◌, ⊎_elim, arith}
 use Rattle.std.proofs.lemmas.Int.{ints, clamps}
-use Rattle.std.proofs.lemmas.Bool.{cases_lt, ne_eqb, false≢true}
+use Rattle.std.proofs.lemmas.Bool.{cases_lt}
 use Rattle.std.proofs.lemmas.List.{get_or_past}
 use Rattle.theory.specs.declared.ext.Ext.{Ext}
-use Rattle.theory.specs.declared.ext.Ext.TheVariants.{MinusInf, At, PlusInf}
-use Rattle.theory.specs.declared.colour.Colour.{Colour}
+use Rattle.theory.specs.declared.ext.Ext.TheVariants.{PlusInf}
 use Rattle.theory.specs.declared.network.Step.{Step}
-use Rattle.theory.specs.Sums.{positive_part, sum_below}
-use Rattle.theory.specs.Ends.{IsFinite, is_finite, negated, whole, IsAtMost}
-use Rattle.theory.specs.CurveList.{first, last}
+use Rattle.theory.specs.Sums.{positive_part}
+use Rattle.theory.specs.CurveList.{last}
 use Rattle.theory.specs.Domain.{InDomain}
-use Rattle.theory.specs.Limits.{IsWithin, number_most, flow_most}
-use Rattle.theory.specs.Painting.{IsFree}
-use Rattle.theory.specs.Network.{Network, IsNetwork, «at», tail, head, curve, list_at}
+use Rattle.theory.specs.Limits.{IsWithin, flow_most}
+use Rattle.theory.specs.Network.{Network, IsNetwork, «at», list_at}
 use Rattle.theory.specs.Conserved.{IsConserved, divergence}
 use Rattle.theory.specs.Feasible.{IsFeasibleFlow}
 use Rattle.theory.specs.Certificate.{AreNumbers}
-use Rattle.theory.specs.Cut.{holds, cut_end}
-use Rattle.theory.specs.Circuit.{step, begin_of, end_of, IsCircuit, WalkIsThere}
+use Rattle.theory.specs.Circuit.{step, IsCircuit, WalkIsThere}
 use Rattle.theory.specs.Sent.{sends, sent_round}
-use Rattle.theory.proofs.Bounds.{sum_below-within, within_more, negated-within, nothing_within}
+use Rattle.theory.proofs.Bounds.{nothing_within}
 use Rattle.theory.proofs.Refusals.{around}
-use Rattle.theory.proofs.SumLaw.{divergence-conserved, crossing}
-use Rattle.theory.proofs.SumsBelow.{sum_below-order, sum_below-same}
+use Rattle.theory.proofs.SumLaw.{divergence-conserved}
 use Rattle.theory.proofs.Unbounded.{brought, mark_of}
 use Rattle.net_incidence.specs.Graph.{Graph, bare}
 use Rattle.net_incidence.specs.Incidence.{over}
 use Rattle.net_incidence.specs.WithoutBases.{without_bases, passable_arcs_most}
-use Rattle.net_incidence.proofs.WithoutBases.{without_bases-items, without_bases-network}
-use Rattle.painted_search.specs.Path.{IsFreePath, IsFreeCut, AllFree, IsFreeStep}
-use Rattle.feasible_flow.specs.Painting.{painting, shade}
-use Rattle.feasible_flow.specs.Violations.{HasRoom, AreNear, movable_most}
+use Rattle.net_incidence.proofs.WithoutBases.{without_bases-items}
+use Rattle.feasible_flow.specs.Violations.{HasRoom}
 use Rattle.feasible_flow.specs.UnderWay.{ArcsDiffer, AllHaveRoom}
-use Rattle.feasible_flow.proofs.Lists.{AreCurves}
 use Rattle.feasible_flow.proofs.OneArc.{positive_part-is}
 use Rattle.feasible_flow.proofs.Sending.{divergence-sent, length-sent, sent-here, sent-elsewhere, passes}
-use Rattle.path_cut.specs.GreatestFlow.{return_arc, start, goal, HasReturn, IsFlowBound, IsCutOf, IsOpenPath}
+use Rattle.path_cut.specs.GreatestFlow.{return_arc, HasReturn, IsFlowBound}
 use Rattle.path_cut.specs.Augmenting.{IsAugmented, IsWay, top_most}
 use Rattle.path_cut.proofs.Ends.{moved-inside}
 use Rattle.path_cut.proofs.Walks.{closed-by}

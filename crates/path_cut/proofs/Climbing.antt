@@ -2,26 +2,26 @@
 -- end of a span; so no node of the set is further from the first one than the walk is long. The step that becomes tight leads to a node
 -- outside, which is one step further, and what this node has gained all nodes outside have. That bounds the gain, whatever was lifted
 -- before. Steps of the set keep their tensions, so the next set holds this one, and the new node too.
-use Rattle.std.proofs.Common.{◌≡◌, ◌≢◌, ◌⊎◌, ℕ, zero, suc, ◌+◌, ◌*◌, ◌<◌, ◌≤◌, ℤ, pos, ◌+ℤ◌, ◌-ℤ◌, ◌*ℤ◌, neg_ℤ, ◌≤ℤ◌, Bool, true, false, IsTrue, not, if◌then◌else◌, Option, Some, None, List, [], ◌∷◌, length, refl, sym, ap, ◌∙◌, subst, inl, inr, ⊎_elim, arith}
+use Rattle.std.proofs.Common.{◌≡◌, ◌⊎◌, ℕ, zero, suc, ◌+◌, ◌*◌, ◌<◌, ◌≤◌, ℤ, pos, ◌+ℤ◌, ◌-ℤ◌, ◌≤ℤ◌, Bool, true, false, not, if◌then◌else◌, None, List, [], ◌∷◌, length, refl, sym, ap, ◌∙◌, subst, inl, inr, ⊎_elim, arith}
 use Rattle.std.proofs.lemmas.Int.{ints}
-use Rattle.std.proofs.lemmas.Bool.{cases_lt, cases_eq, false≢true}
+use Rattle.std.proofs.lemmas.Bool.{cases_eq, false≢true}
 use Rattle.theory.specs.declared.ext.Ext.{Ext}
 use Rattle.theory.specs.declared.network.Step.{Step}
-use Rattle.theory.specs.Sums.{sum_over, Each}
+use Rattle.theory.specs.Sums.{sum_over}
 use Rattle.theory.specs.Ends.{IsFinite, whole}
-use Rattle.theory.specs.Span.{span_low, span_high, InSpan}
+use Rattle.theory.specs.Span.{span_low, span_high}
 use Rattle.theory.specs.Limits.{IsWithin, number_most, grounded_nodes_most}
 use Rattle.theory.specs.Painting.{IsFree}
-use Rattle.theory.specs.Network.{Network, IsNetwork, «at», tail, head, curve, list_at}
+use Rattle.theory.specs.Network.{Network, IsNetwork, «at», tail, head, list_at}
 use Rattle.theory.specs.Conserved.{tension}
 use Rattle.theory.specs.Feasible.{IsFeasiblePotential}
 use Rattle.theory.specs.Cut.{holds}
-use Rattle.theory.specs.Circuit.{step, begin_of, end_of, span_end, span_sum, SpanCounts}
+use Rattle.theory.specs.Circuit.{step, begin_of, end_of, span_end}
 use Rattle.theory.proofs.Sums.{sum_over-each}
 use Rattle.theory.proofs.Bounds.{within_more}
 use Rattle.theory.proofs.Counting.{total_below-most, total_below-term}
 use Rattle.net_incidence.specs.Graph.{Graph, bare}
-use Rattle.net_incidence.specs.FlowAlong.{AreSmall, most_potential}
+use Rattle.net_incidence.specs.FlowAlong.{AreSmall}
 use Rattle.net_incidence.specs.Incidence.{over}
 use Rattle.net_incidence.specs.WithoutBases.{without_bases}
 use Rattle.net_incidence.proofs.Graphs.{end-in_graph}
@@ -31,16 +31,15 @@ use Rattle.painted_search.specs.Room.{Room}
 use Rattle.painted_search.specs.Path.{IsFreeStep, IsFreePath, IsFreeCut, IsGrowth}
 use Rattle.feasible_flow.proofs.Lists.{AreCurves}
 use Rattle.feasible_flow.proofs.ViolationFalls.{total_below-falls}
-use Rattle.path_cut.specs.Paths.{IsPath}
 use Rattle.path_cut.specs.Paintings.{tight, tight_colour}
 use Rattle.path_cut.specs.GreatestTension.{rise, IsPathOf, IsOpenCut}
-use Rattle.path_cut.specs.Slack.{slack_at, IsLeast, IsLeastOf}
-use Rattle.path_cut.specs.Lifting.{lift, lifted}
+use Rattle.path_cut.specs.Slack.{slack_at, IsLeast}
+use Rattle.path_cut.specs.Lifting.{lift}
 use Rattle.path_cut.specs.Climbing.{gain, IsRisen, IsClimbing, lacked}
 use Rattle.path_cut.proofs.Ends.{span-ends}
-use Rattle.path_cut.proofs.Walks.{free-path, differences}
+use Rattle.path_cut.proofs.Walks.{differences}
 use Rattle.path_cut.proofs.Lifting.{IsLifted, tension-lifted, lifted-feasible}
-use Rattle.path_cut.proofs.Slacks.{directed, tight-is, passing-within, slack-has, slack-most, leaving-none, entering-none, IsBridge, bridge-is}
+use Rattle.path_cut.proofs.Slacks.{directed, tight-is, passing-within, slack-has, slack-most, leaving-none, entering-none, bridge-is}
 
 -- ---- marks
 

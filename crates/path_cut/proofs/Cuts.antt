@@ -1,6 +1,6 @@
 -- What the cuts of the two searches say. Where no endless step leaves the set, each end that an arc adds to the sum is finite, so the cut
 -- bounds all flows. Where no step with room leaves it, each arc carries the end that it adds, so the last arc carries their sum.
-use Rattle.std.proofs.Common.{◌≡◌, ◌≢◌, ℕ, zero, suc, ◌+◌, ◌*◌, ◌-◌, ◌<◌, ◌≤◌, ◌==◌, ℤ, pos, ◌-ℤ◌, ◌*ℤ◌, ◌≤ℤ◌, Bool, true, false, IsTrue, not, ◌&&◌, if◌then◌else◌, List, length, refl, sym, ap, ◌∙◌, subst, arith}
+use Rattle.std.proofs.Common.{◌≡◌, ◌≢◌, ℕ, zero, suc, ◌+◌, ◌*◌, ◌<◌, ◌==◌, ℤ, pos, ◌≤ℤ◌, Bool, true, false, IsTrue, not, if◌then◌else◌, List, length, refl, sym, ap, ◌∙◌, arith}
 use Rattle.std.proofs.lemmas.Int.{ints}
 use Rattle.std.proofs.lemmas.Bool.{ne_eqb, false≢true}
 use Rattle.theory.specs.declared.ext.Ext.{Ext}
@@ -13,11 +13,11 @@ use Rattle.theory.specs.Ends.{IsFinite, is_finite, negated, whole}
 use Rattle.theory.specs.CurveList.{first, last}
 use Rattle.theory.specs.Limits.{IsWithin, number_most}
 use Rattle.theory.specs.Painting.{IsFree}
-use Rattle.theory.specs.Network.{Network, IsNetwork, «at», tail, head, curve, list_at}
+use Rattle.theory.specs.Network.{Network, IsNetwork, «at», tail, head, list_at}
 use Rattle.theory.specs.Feasible.{IsFeasibleFlow}
 use Rattle.theory.specs.Cut.{holds, cut_end}
-use Rattle.theory.specs.Circuit.{step, begin_of, end_of}
-use Rattle.theory.proofs.Bounds.{within_more, within_sum, negated-within, nothing_within}
+use Rattle.theory.specs.Circuit.{step}
+use Rattle.theory.proofs.Bounds.{negated-within, nothing_within}
 use Rattle.theory.proofs.Rings.{scale_mono}
 use Rattle.theory.proofs.SumLaw.{crossing}
 use Rattle.theory.proofs.SumsBelow.{sum_below-order}
@@ -26,8 +26,8 @@ use Rattle.net_incidence.specs.Incidence.{over}
 use Rattle.net_incidence.specs.PartOf.{crossing_end}
 use Rattle.net_incidence.specs.WithoutBases.{without_bases}
 use Rattle.net_incidence.proofs.WithoutBases.{without_bases-items}
-use Rattle.painted_search.specs.Path.{IsFreePath, IsFreeCut, AllFree}
-use Rattle.feasible_flow.specs.Painting.{painting, shade}
+use Rattle.painted_search.specs.Path.{IsFreePath, IsFreeCut}
+use Rattle.feasible_flow.specs.Painting.{painting}
 use Rattle.feasible_flow.proofs.DomainEnds.{AreEnds, both, from_a_point, to_a_point, everywhere, list-ends, first-within, last-within}
 use Rattle.feasible_flow.proofs.OneArc.{shade-free}
 use Rattle.feasible_flow.proofs.CutIsNegative.{shade-up, shade-down, cut-full}
@@ -36,7 +36,7 @@ use Rattle.path_cut.specs.Paths.{IsPath, leading_end}
 use Rattle.path_cut.specs.Paintings.{but, endless, endless_colour}
 use Rattle.path_cut.specs.GreatestFlow.{return_arc, start, goal, HasReturn, IsFlowBound, IsCutOf, IsOpenPath}
 use Rattle.path_cut.specs.Augmenting.{top_most}
-use Rattle.path_cut.proofs.FlowBound.{crosses, cut-bound, last-count}
+use Rattle.path_cut.proofs.FlowBound.{crosses, cut-bound}
 use Rattle.path_cut.proofs.Walks.{free-path}
 
 -- ---- all arcs but one

@@ -1,6 +1,6 @@
 -- A cut bounds every flow. Nothing conserved crosses a set of nodes on the whole. The last arc enters the set, so what it carries is
 -- what crosses on the other arcs, and on each of these a feasible flow over q is at most q times the end that the arc adds to the sum.
-use Rattle.std.proofs.Common.{◌≡◌, ℕ, suc, ◌-◌, ◌<◌, ℤ, pos, ◌+ℤ◌, ◌-ℤ◌, ◌*ℤ◌, neg_ℤ, ◌≤ℤ◌, Bool, true, false, not, ◌&&◌, if◌then◌else◌, List, length, sym, ap, ◌∙◌, arith}
+use Rattle.std.proofs.Common.{◌≡◌, ℕ, suc, ℤ, pos, ◌+ℤ◌, ◌-ℤ◌, ◌*ℤ◌, neg_ℤ, ◌≤ℤ◌, Bool, true, false, not, ◌&&◌, if◌then◌else◌, List, length, sym, ap, arith}
 use Rattle.std.proofs.lemmas.Int.{ints}
 use Rattle.std.proofs.lemmas.Bool.{false≢true}
 use Rattle.theory.specs.declared.ext.Ext.{Ext}
@@ -9,14 +9,12 @@ use Rattle.theory.specs.Sums.{sum_below, counted}
 use Rattle.theory.specs.Ends.{IsFinite, whole, negated, IsBetween}
 use Rattle.theory.specs.CurveList.{first, last}
 use Rattle.theory.specs.Network.{Network, IsNetwork, «at», tail, head, curve}
-use Rattle.theory.specs.Feasible.{IsFeasibleFlow}
 use Rattle.theory.specs.Conserved.{IsConserved}
 use Rattle.theory.specs.Cut.{holds, cut_end}
-use Rattle.theory.proofs.Rings.{rings}
 use Rattle.theory.proofs.Refusals.{at_most_end, at_least_end}
 use Rattle.theory.proofs.SumsBelow.{sum_below-mul, sum_below-order}
 use Rattle.theory.proofs.SumLaw.{crossing, cut_law-conserved}
-use Rattle.path_cut.specs.GreatestFlow.{return_arc, start, goal, HasReturn, IsFlowBound, IsCutOf, IsGreatestFlow, FlowHasNoTop}
+use Rattle.path_cut.specs.GreatestFlow.{return_arc, start, goal, HasReturn, IsFlowBound, IsCutOf, IsGreatestFlow}
 use Rattle.path_cut.specs.FlowLaws.{FlowCutLaw, FlowExactLaw}
 
 -- what crosses on an arc, by whether the set holds its tail and its head

@@ -1,18 +1,17 @@
 -- Potentials lifted outside a set of nodes. A tension changes on the arcs that cross the set alone: it rises on those that leave it and
 -- falls on those that enter it. So an open cut lets the potential rise without end.
-use Rattle.std.proofs.Common.{◌≡◌, ℕ, zero, suc, ◌+◌, ◌<◌, ◌≤◌, ℤ, pos, ◌+ℤ◌, ◌-ℤ◌, ◌<ℤ◌, ◌≤ℤ◌, Bool, true, false, List, [], ◌∷◌, length, refl, sym, ap, ◌∙◌, arith}
+use Rattle.std.proofs.Common.{◌≡◌, ℕ, zero, suc, ◌+◌, ◌<◌, ℤ, pos, ◌+ℤ◌, ◌-ℤ◌, Bool, true, false, List, [], ◌∷◌, length, refl, arith}
 use Rattle.std.proofs.lemmas.Int.{ints, clamps}
 use Rattle.theory.specs.declared.ext.Ext.{Ext}
 use Rattle.theory.specs.declared.ext.Ext.TheVariants.{MinusInf, PlusInf}
 use Rattle.theory.specs.Sums.{positive_part}
-use Rattle.theory.specs.Ends.{IsAtLeast, IsAtMost}
 use Rattle.theory.specs.Span.{InSpan, span_low, span_high}
 use Rattle.theory.specs.Network.{Network, IsNetwork, «at», tail, head, curve}
 use Rattle.theory.specs.Conserved.{tension}
 use Rattle.theory.specs.Feasible.{IsFeasiblePotential}
 use Rattle.theory.specs.Cut.{holds}
 use Rattle.feasible_flow.proofs.OneArc.{positive_part-is}
-use Rattle.path_cut.specs.GreatestTension.{rise, IsOpenCut, TensionHasNoTop}
+use Rattle.path_cut.specs.GreatestTension.{rise}
 use Rattle.path_cut.specs.TensionLaws.{OpenCutLaw}
 use Rattle.path_cut.specs.Lifting.{lift, lifted, HasSlack}
 use Rattle.path_cut.proofs.Ends.{least_on, most_on}

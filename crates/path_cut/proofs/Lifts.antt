@@ -1,5 +1,5 @@
 -- Potentials lifted one after the other.
-use Rattle.std.proofs.Common.{◌≡◌, ℕ, ◌+◌, ◌<◌, ◌≤◌, ℤ, pos, sym, ap, ◌∙◌, subst, get_or-set_same, get_or-set_other, ⊎_elim, arith}
+use Rattle.std.proofs.Common.{◌≡◌, ℕ, ◌+◌, ◌<◌, ◌≤◌, ℤ, pos, ◌∙◌, subst, get_or-set_same, get_or-set_other, ⊎_elim, arith}
 use Rattle.std.proofs.lemmas.Bool.{cases_lt}
 use Rattle.theory.specs.Network.{«at»}
 use Rattle.painted_search.specs.Room.{Room}

@@ -1,15 +1,13 @@
 -- An open path leaves no flow greatest. Closed by the last arc it is a circuit; units sent round it keep the flow conserved. Where a step
 -- leads to no end of the domain it adds a finite end to the span sum, so the theorem on flow that is sent along such steps keeps the
 -- flow in its domains; and the last arc carries as many more.
-use Rattle.std.proofs.Common.{◌≡◌, ℕ, zero, suc, ◌+◌, ◌-◌, ◌<◌, ◌≤◌, ℤ, pos, ◌+ℤ◌, ◌-ℤ◌, ◌*ℤ◌, ◌<ℤ◌, Bool, true, List, ◌∷◌, length, refl, arith}
+use Rattle.std.proofs.Common.{◌≡◌, ℕ, zero, suc, ◌+◌, ◌<◌, ℤ, pos, ◌+ℤ◌, ◌-ℤ◌, ◌*ℤ◌, ◌<ℤ◌, true, List, ◌∷◌, length, arith}
 use Rattle.std.proofs.lemmas.Int.{ints, clamps}
-use Rattle.theory.specs.declared.ext.Ext.TheVariants.{MinusInf, At, PlusInf}
 use Rattle.theory.specs.declared.network.Step.{Step}
 use Rattle.theory.specs.Sums.{positive_part}
 use Rattle.theory.specs.Ends.{IsFinite}
 use Rattle.theory.specs.Network.{Network, IsNetwork, «at», curve}
 use Rattle.theory.specs.Conserved.{IsConserved, divergence}
-use Rattle.theory.specs.Feasible.{IsFeasibleFlow}
 use Rattle.theory.specs.Circuit.{step, IsCircuit, WalkIsThere, span_end, SpanCounts}
 use Rattle.theory.specs.Sent.{sent_round}
 use Rattle.theory.proofs.SumLaw.{divergence-conserved}
@@ -19,7 +17,7 @@ use Rattle.net_incidence.specs.Incidence.{over}
 use Rattle.net_incidence.proofs.SumParts.{each-places}
 use Rattle.feasible_flow.proofs.OneArc.{positive_part-is}
 use Rattle.feasible_flow.proofs.Sending.{sent-here}
-use Rattle.path_cut.specs.GreatestFlow.{return_arc, HasReturn, IsOpenPath, FlowHasNoTop}
+use Rattle.path_cut.specs.GreatestFlow.{return_arc, HasReturn, IsOpenPath}
 use Rattle.path_cut.specs.FlowLaws.{OpenPathLaw}
 use Rattle.path_cut.proofs.Ends.{open-finite}
 use Rattle.path_cut.proofs.Walks.{closed-by}

@@ -1,11 +1,9 @@
 -- What is found for the items of the curves holds for the curves with their bases: which flows, potentials, cuts and paths a network has
 -- depends on the items alone.
-use Rattle.std.proofs.Common.{◌≡◌, ℕ, zero, suc, ◌<◌, ℤ, ◌+ℤ◌, List, [], ◌∷◌, Bool, length, map, refl, sym, ap, ap₂, ◌∙◌, subst}
-use Rattle.theory.specs.declared.ext.Ext.{Ext}
+use Rattle.std.proofs.Common.{◌≡◌, ℕ, ℤ, ◌+ℤ◌, List, [], ◌∷◌, Bool, map, refl, sym, ap, ap₂, ◌∙◌, subst}
 use Rattle.theory.specs.declared.network.Step.{Step}
 use Rattle.theory.specs.Ends.{IsFinite, whole}
-use Rattle.theory.specs.CurveList.{Listing, first, last}
-use Rattle.theory.specs.Span.{span_low, span_high}
+use Rattle.theory.specs.CurveList.{Listing}
 use Rattle.theory.specs.Network.{Network, «at», curve}
 use Rattle.theory.specs.Feasible.{IsFeasibleFlow, IsFeasiblePotential}
 use Rattle.theory.specs.Cut.{cut_end, IsNegativeCut}
@@ -17,7 +15,7 @@ use Rattle.ground_net.specs.Ground.{listings}
 use Rattle.ground_net.proofs.Items.{items_of, items-same}
 use Rattle.net_incidence.specs.WithoutBases.{without_bases, without_base}
 use Rattle.net_incidence.proofs.WithoutBases.{flow-same, potential-same, cut-same, circuit-same}
-use Rattle.path_cut.specs.Paths.{IsPath, leading_end}
+use Rattle.path_cut.specs.Paths.{IsPath}
 use Rattle.path_cut.specs.GreatestFlow.{return_arc, HasReturn, IsCutOf, IsOpenPath}
 use Rattle.path_cut.specs.GreatestTension.{IsPathOf, IsOpenCut}
 

@@ -1,5 +1,5 @@
 -- Slack of one arc, the least of all, and tight steps.
-use Rattle.std.proofs.Common.{◌≡◌, ◌⊎◌, ℕ, ◌+◌, ◌<◌, ◌≤◌, min, ℤ, pos, ◌+ℤ◌, ◌-ℤ◌, ◌*ℤ◌, neg_ℤ, ◌≤ℤ◌, Bool, true, false, not, if◌then◌else◌, Option, Some, None, List, refl, sym, ap, ◌∙◌, inl, inr, ⊎_elim, arith}
+use Rattle.std.proofs.Common.{◌≡◌, ◌⊎◌, ℕ, ◌+◌, ◌<◌, ◌≤◌, ℤ, pos, ◌+ℤ◌, ◌-ℤ◌, neg_ℤ, Bool, true, false, not, Option, Some, None, List, refl, sym, ap, ◌∙◌, inl, inr, ⊎_elim, arith}
 use Rattle.std.proofs.lemmas.Int.{ints, clamps}
 use Rattle.std.proofs.lemmas.Bool.{cases_lt, false≢true}
 use Rattle.std.proofs.Math.Nat.{min-le_left, min-le_right, min-eq_left, min-eq_right}
@@ -16,7 +16,7 @@ use Rattle.feasible_flow.specs.Painting.{shade}
 use Rattle.feasible_flow.proofs.DomainEnds.{AreEnds, both, from_a_point, to_a_point, everywhere}
 use Rattle.feasible_flow.proofs.OneArc.{positive_part-is, shade-free}
 use Rattle.path_cut.specs.Paintings.{tight_colour}
-use Rattle.path_cut.specs.Slack.{above, below, slack, lesser, IsLeast, IsLeastOf}
+use Rattle.path_cut.specs.Slack.{above, below, slack, lesser, IsLeastOf}
 use Rattle.path_cut.specs.Lifting.{lift, HasSlack}
 
 -- ---- the least

@@ -1,15 +1,13 @@
 -- A path bounds every tension: along it the differences of a feasible potential over q add up to its rise from the first node to the
 -- last, and each is at most q times the end that the step adds to the span sum.
-use Rattle.std.proofs.Common.{◌≡◌, ℕ, ◌+◌, ◌<◌, ℤ, pos, ◌-ℤ◌, ◌*ℤ◌, ◌≤ℤ◌, List, [], ◌∷◌, length, refl, ap, arith}
+use Rattle.std.proofs.Common.{ℕ, ℤ, pos, ◌-ℤ◌, ◌*ℤ◌, ◌≤ℤ◌, List, [], ◌∷◌, length, refl, ap, arith}
 use Rattle.std.proofs.lemmas.Int.{ints}
 use Rattle.theory.specs.declared.network.Step.{Step}
-use Rattle.theory.specs.Sums.{sum_over}
 use Rattle.theory.specs.Ends.{whole}
 use Rattle.theory.specs.Network.{Network, «at»}
-use Rattle.theory.specs.Feasible.{IsFeasiblePotential}
-use Rattle.theory.specs.Circuit.{step, begin_of, end_of, span_end, span_sum}
+use Rattle.theory.specs.Circuit.{begin_of, end_of, span_end}
 use Rattle.theory.proofs.Sums.{sum_over-scale, sum_over-order}
-use Rattle.path_cut.specs.GreatestTension.{rise, IsTensionBound, IsGreatestTension, TensionHasNoTop, IsPathOf}
+use Rattle.path_cut.specs.GreatestTension.{IsTensionBound, IsGreatestTension, IsPathOf}
 use Rattle.path_cut.specs.TensionLaws.{TensionPathLaw, TensionExactLaw}
 use Rattle.path_cut.proofs.Walks.{differences, steps-below}
 

@@ -8,7 +8,7 @@ use Rattle.theory.specs.declared.network.Step.{Step}
 use Rattle.theory.specs.Sums.{sum_over, Each}
 use Rattle.theory.specs.Ends.{IsFinite, whole, negated, IsBetween}
 use Rattle.theory.specs.Span.{span_low, span_high, InSpan}
-use Rattle.theory.specs.Network.{Network, IsNetwork, tail, head, curve}
+use Rattle.theory.specs.Network.{Network, tail, head, curve}
 use Rattle.theory.specs.Conserved.{tension}
 use Rattle.theory.specs.Circuit.{step, begin_of, end_of, IsCircuit, WalkIsThere, span_end, SpanCounts}
 use Rattle.theory.proofs.Refusals.{at_most_end, at_least_end}

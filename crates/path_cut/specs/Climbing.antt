@@ -4,7 +4,7 @@ use Rattle.std.specs.Prelude.{◌≡◌, ℕ, ◌+◌, ◌*◌, ◌<◌, ◌≤�
 use Rattle.theory.specs.declared.ext.Ext.{Ext}
 use Rattle.theory.specs.Sums.{total_below}
 use Rattle.theory.specs.Limits.{number_most}
-use Rattle.theory.specs.Network.{Network, «at»}
+use Rattle.theory.specs.Network.{Network}
 use Rattle.theory.specs.Feasible.{IsFeasiblePotential}
 use Rattle.theory.specs.Cut.{holds}
 use Rattle.net_incidence.specs.Graph.{Graph, bare}

@@ -1,5 +1,5 @@
 -- What is found of the flows of a network with a return, and of the tensions between two nodes.
-use Rattle.std.specs.Prelude.{◌≡◌, ℕ, ◌≤◌, ℤ, Bool, List, length}
+use Rattle.std.specs.Prelude.{◌≡◌, ℕ, ℤ, Bool, List, length}
 use Rattle.theory.specs.declared.network.Step.{Step}
 use Rattle.theory.specs.Network.{Network, «at»}
 use Rattle.theory.specs.Feasible.{IsFeasibleFlow, IsFeasiblePotential}

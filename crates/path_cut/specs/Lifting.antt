@@ -1,5 +1,5 @@
 -- Lifting: the potentials outside a set of nodes raised by an amount, all by the value at node 0.
-use Rattle.std.specs.Prelude.{◌≡◌, ℕ, ◌<◌, ℤ, pos, ◌+ℤ◌, ◌-ℤ◌, Bool, true, false, List}
+use Rattle.std.specs.Prelude.{ℕ, ℤ, pos, ◌+ℤ◌, ◌-ℤ◌, Bool, true, false, List}
 use Rattle.theory.specs.declared.ext.Ext.{Ext}
 use Rattle.theory.specs.Ends.{IsAtLeast, IsAtMost}
 use Rattle.theory.specs.Span.{span_low, span_high}

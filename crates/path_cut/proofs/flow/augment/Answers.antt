@@ -1,16 +1,15 @@
 -- Each round is one of the circuit that the last arc closes with a path of room. Since a cut bounds what the last arc carries, no flow
 -- leaves its range, and there is less left each time.
-use Rattle.std.proofs.Common.{◌≡◌, ℕ, ◌+◌, ◌*◌, ◌<◌, ◌≤◌, ℤ, pos, true, List, ◌∷◌, length, map, sym, ap, ◌∙◌, subst, arith}
+use Rattle.std.proofs.Common.{◌≡◌, ℕ, ◌*◌, true, List, ◌∷◌, map, sym, ap, ◌∙◌, subst, arith}
 use Rattle.std.proofs.lemmas.List.{length-map}
-use Rattle.theory.specs.declared.ext.Ext.{Ext}
 use Rattle.theory.specs.declared.network.Step.{Step}
 use Rattle.theory.specs.Limits.{flow_most}
-use Rattle.theory.specs.Network.{Network, IsNetwork, «at»}
+use Rattle.theory.specs.Network.{Network, «at»}
 use Rattle.theory.proofs.Bounds.{within_more}
 use Rattle.net_incidence.specs.Incidence.{over}
 use Rattle.net_incidence.specs.WithoutBases.{without_bases}
 use Rattle.net_incidence.proofs.WithoutBases.{without_bases-network}
-use Rattle.feasible_flow.proofs.Lists.{AreCurves, are-curves}
+use Rattle.feasible_flow.proofs.Lists.{are-curves}
 use Rattle.theory.specs.Sent.{sent_round}
 use Rattle.feasible_flow.specs.Violations.{movable_most, AreNear}
 use Rattle.feasible_flow.specs.UnderWay.{ArcsDiffer}

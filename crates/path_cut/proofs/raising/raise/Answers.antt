@@ -1,6 +1,5 @@
-use Rattle.std.proofs.Common.{◌≡◌, ℕ, ◌+◌, ◌<◌, ℤ, length, sym, ap, ◌∙◌, subst, arith}
+use Rattle.std.proofs.Common.{◌+◌, ◌<◌, length, sym, ap, ◌∙◌, subst, arith}
 use Rattle.std.proofs.lemmas.Int.{ints}
-use Rattle.theory.specs.Network.{«at»}
 use Rattle.theory.specs.Cut.{holds}
 use Rattle.painted_search.specs.Room.{Room}
 use Rattle.path_cut.specs.Lifting.{lift}

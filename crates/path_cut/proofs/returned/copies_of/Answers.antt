@@ -1,6 +1,5 @@
 use Rattle.std.proofs.Common.{◌≡◌, ◌<◌, length, get_or, sym, ap, ◌∙◌, arith}
 use Rattle.std.proofs.lemmas.List.{length-map, get_or-map}
-use Rattle.theory.specs.CurveList.{Listing}
 use Rattle.mono_curve.specs.CurveValue.{CurveValue}
 use Rattle.ground_net.specs.Ground.{listings}
 use Rattle.path_cut.specs.Returned.{line}

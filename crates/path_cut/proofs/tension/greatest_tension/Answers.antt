@@ -1,11 +1,9 @@
 -- At each turn the potentials are risen from those at the beginning, so they are near 0; the set that is reached lacks fewer nodes than
 -- before, which pays for the search and the look at all arcs.
-use Rattle.std.proofs.Common.{◌≡◌, ℕ, ◌+◌, ◌*◌, ◌<◌, ◌≤◌, length, map, rules, w64, SFits, to_z-of_z, ap, ◌∙◌, arith}
+use Rattle.std.proofs.Common.{◌+◌, ◌*◌, length, map, rules, w64, SFits, to_z-of_z, ap, ◌∙◌, arith}
 use Rattle.std.proofs.lemmas.List.{length-map}
 use Rattle.std.proofs.Math.Nat.{mul-le-mul_right}
-use Rattle.theory.specs.Limits.{IsWithin, number_most}
-use Rattle.theory.specs.Network.{«at»}
-use Rattle.net_incidence.specs.FlowAlong.{AreSmall}
+use Rattle.theory.specs.Limits.{number_most}
 use Rattle.net_incidence.specs.WithoutBases.{without_bases}
 use Rattle.net_incidence.proofs.WithoutBases.{without_bases-network}
 use Rattle.feasible_flow.proofs.Lists.{are-curves}

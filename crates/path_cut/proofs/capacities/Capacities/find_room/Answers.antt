@@ -1,14 +1,9 @@
 -- A path of free steps has room; a cut that none leaves holds what the last arc carries.
-use Rattle.std.proofs.Common.{ℕ, length, map, ◌<◌, ◌∙◌, arith}
+use Rattle.std.proofs.Common.{map, ◌∙◌}
 use Rattle.std.proofs.lemmas.List.{length-map}
-use Rattle.theory.specs.Network.{«at»}
-use Rattle.theory.specs.Circuit.{step}
-use Rattle.net_incidence.specs.WithoutBases.{without_bases}
 use Rattle.net_incidence.proofs.WithoutBases.{without_bases-network}
-use Rattle.feasible_flow.specs.Painting.{painting}
 use Rattle.feasible_flow.proofs.Lists.{are-curves}
-use Rattle.path_cut.specs.GreatestFlow.{IsCutOf, return_arc}
-use Rattle.path_cut.proofs.Cuts.{start-is, goal-is, cut-is, but-free, free-path-is, others-is}
+use Rattle.path_cut.proofs.Cuts.{start-is, goal-is, cut-is}
 use Rattle.path_cut.proofs.capacities.Capacities.find_room.Goals as goal
 
 pub returns-in-Cut-clause-found : goal.returns-in-Cut-clause-found

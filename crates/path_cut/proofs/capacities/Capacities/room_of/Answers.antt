@@ -1,5 +1,3 @@
-use Rattle.std.proofs.Common.{ap, ◌∙◌, map}
-use Rattle.theory.specs.Network.{list_at}
 use Rattle.feasible_flow.proofs.DomainEnds.{first-within, last-within}
 use Rattle.feasible_flow.proofs.Lists.{are-curves}
 use Rattle.path_cut.proofs.capacities.Capacities.room_of.Goals as goal

@@ -1,4 +1,3 @@
-use Rattle.std.proofs.Common.{map}
 use Rattle.theory.specs.Limits.{number_most}
 use Rattle.theory.proofs.Bounds.{span_low-within, span_high-within}
 use Rattle.feasible_flow.proofs.Lists.{are-curves}
