@@ -10,10 +10,11 @@ import sys
 
 import growth
 import machine
+import shops
 from classes import CLASSES
 from draws import Draws
 from processes import run
-from programs import OUT, PEERS, PROGRAM, build_peers, build_program, is_answer, peer_words, said_by_peer, said_by_program
+from programs import OUT, PEERS, PROGRAM, build_peers, build_program, is_answer, peer_words, said_by_peer, said_by_program, said_of_table
 from table import geometric_mean, markdown, milliseconds, ratio
 
 SPEED = os.path.join(os.path.dirname(os.path.dirname(os.path.abspath(__file__))), "docs", "SPEED.md")
@@ -114,6 +115,30 @@ def class_table(classes, peers, rounds, limit):
     return text, faults
 
 
+def table_table(tables, rounds, limit):
+    """`transport` on tables, beside `solve` and LEMON on the models that they stand for."""
+    rows, faults = [], []
+    for name, seed, plants, places, lanes in tables:
+        table = shops.made(Draws(seed), plants, places, lanes)
+        path = os.path.join(folder(), f"table-{lanes}")
+        for end, text in ((".table", table.text()), (".net", table.model.text())):
+            with open(path + end, "w") as file:
+                file.write(text)
+        words = {"transport": [PROGRAM, "transport", path + ".table"], "solve": [PROGRAM, "solve", path + ".net"], "simplex": peer_words("simplex", [path + ".net"])}
+        hear = {"transport": said_of_table, "solve": said_by_program, "simplex": said_by_peer}
+        best, said = {}, {}
+        for _ in range(rounds):
+            for program in words:
+                done = run(words[program], limit)
+                said[program] = hear[program](done)
+                best[program] = min(best.get(program, done.seconds), done.seconds)
+        if len(set(said.values())) > 1 or not is_answer(said["transport"]):
+            faults.append(f"{name}: " + "; ".join(f"{program} {heard}" for program, heard in said.items()))
+        rows.append([name, said["transport"].split(" ")[0]] + [milliseconds(best[program]) for program in words] + [ratio(best["transport"], best["simplex"])])
+        print("  ".join(rows[-1]), flush=True)
+    return markdown(["table", "answer", "transport", "solve", PEERS["simplex"].title, "to NetworkSimplex"], rows), faults
+
+
 def put_into_document(text):
     with open(SPEED) as file:
         page = file.read()
@@ -142,6 +167,9 @@ def main():
             table, more = class_table(members, ["simplex"], options.rounds, options.limit)
             text += f"\n{title}\n\n{table}"
             faults += more
+        table, more = table_table(shops.TABLES, options.rounds, options.limit)
+        text += f"\nTables of plants, shops and lanes:\n\n{table}"
+        faults += more
     with open(os.path.join(OUT, "table.md"), "w") as file:
         file.write(text)
     print("\n" + text)

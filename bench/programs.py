@@ -67,6 +67,18 @@ def said_by_program(run):
     return f"status {run.status}: {lines[0]}"
 
 
+def said_of_table(run):
+    """Of a run of `transport`, in the same words."""
+    if run.status is None:
+        return "late"
+    first = run.text.split("\n")[0]
+    if run.status == 0 and first.startswith("transport cost "):
+        return "optimal " + first[len("transport cost "):]
+    if run.status == 1 and first.startswith("transport short "):
+        return "cut"
+    return f"status {run.status}: {first}"
+
+
 def said_by_peer(run):
     if run.status is None:
         return "late"

@@ -15,16 +15,20 @@ use Rattle.mono_top.specs.Causes.{Asks, AsksFaulty, AsksInvalid, AsksNoFlow, Ask
 use Rattle.mono_top.specs.Checks.{ChecksText}
 use Rattle.mono_top.specs.Due.{IsDue, IsDueOfFiles}
 use Rattle.mono_top.specs.OfModel.{OfModel}
-use Rattle.mono_top.specs.Request.{Request, about_model, about_trial, Question, solve, check, pieces, show_curve, show_tableau, later_files, files_of}
+use Rattle.mono_top.specs.Request.{Request, about_model, about_trial, about_table, Question, solve, check, pieces, show_curve, show_tableau, later_files, files_of}
 use Rattle.mono_top.specs.Reading.{IsOpen, IsOpenFor}
 use Rattle.mono_top.specs.ShowsCurve.{ShowsAt}
 use Rattle.mono_top.specs.ShowsPieces.{SplitsText}
 use Rattle.mono_top.specs.TooBig.{IsTooBigFor}
 use Rattle.mono_top.specs.declared.lines.Place.TheVariants.{First, Second}
 use Rattle.mono_top.specs.declared.status.Status.{Status}
-use Rattle.mono_top.specs.declared.status.Status.TheVariants.{Done, Rejected, Usage, ModelRefused, Missing, ReadFault, TooLong, TooBig, UnknownArc, NoFlow}
+use Rattle.mono_top.specs.declared.status.Status.TheVariants.{Done, Cut, Rejected, Usage, ModelRefused, Missing, ReadFault, TooLong, TooBig, UnknownArc, NoFlow, TableRefused}
 use Rattle.mono_top.proofs.CheckLemmas.{IsJudged, judged, invalid_is_rejected, rejected_is_invalid}
 use Rattle.mono_top.proofs.SplitLemmas.{IsSplitAs, flows, flowless, invalid, split_as, invalid_is_rejected as invalid_is_split_rejected, rejected_is_invalid as rejected_is_split_invalid, flowless_is_no_flow, no_flow_is_flowless}
+use Rattle.transport_front.specs.declared.fault.TableWord.{TableWord}
+use Rattle.mono_top.specs.TableFiles.{AsksFaultyTable}
+use Rattle.mono_top.specs.Transports.{AnswersTable}
+use Rattle.mono_top.proofs.TableLemmas.{is_planned, is_unmet, is_refused, status_of_text, of_table_file, faulty_table_always}
 use Rattle.mono_top.proofs.Ends.{ends, not_by, answer_ends, later_due}
 use Rattle.mono_top.proofs.ModelFileLemmas.{IsDueBehind, of_model_file, of_text, reached, next_of_model, fault_is_refused}
 
@@ -53,11 +57,20 @@ record IsPast (status : Status) : Type 0 where
   read : status ≢ ReadFault
   short : status ≢ TooLong
   spelled : (line : ℕ) (word : FaultWord) → status ≢ ModelRefused line word
+  met : status ≢ Cut
+  listing : (line : ℕ) (word : TableWord) → status ≢ TableRefused line word
 
 answered : (request : Option Request) (outside : Outside) (status : Status) (text : List ℕ) → Answers request outside status text → IsPast status
     → IsAnswered request outside status text
 answered None outside status text refused past = absurd (past.listed refused.0)
 answered (Some (about_trial number)) outside status text reported past = absurd (past.refused reported.done)
+answered (Some (about_table table)) outside status text reads past =
+    let of = of_text First table AnswersTable outside status text reads past.held past.read past.short in
+    elim (status_of_text of.bytes status text of.next) [
+      | is_planned is ↦ absurd (past.refused is)
+      | is_unmet is ↦ absurd (past.met is)
+      | is_refused line word is ↦ absurd (past.listing line word is)
+    ]
 answered (Some (about_model model question)) outside status text reads past =
     let of = of_text First model (OfModel (AnswersModel question (behind model outside))) outside status text reads past.held past.read past.short in
     elim of.next [
@@ -82,6 +95,9 @@ never_model question line word = refl
 usage_is_none : (request : Option Request) (outside : Outside) (status : Status) (text : List ℕ) → Answers request outside status text → status ≡ Usage → request ≡ None
 usage_is_none None outside status text refused is = refl
 usage_is_none (Some (about_trial number)) outside status text reported is = let done = reported.done in absurd cc
+usage_is_none (Some (about_table table)) outside status text reads is =
+    let of = of_text First table AnswersTable outside status text reads (λ e. cc) (λ e. cc) (λ e. cc) in
+    elim (status_of_text of.bytes status text of.next) [ is_planned as_plan ↦ absurd cc | is_unmet as_short ↦ absurd cc | is_refused line word as_bad ↦ absurd cc ]
 usage_is_none (Some (about_model model question)) outside status text reads is =
     let of = of_text First model (OfModel (AnswersModel question (behind model outside))) outside status text reads (λ e. cc) (λ e. cc) (λ e. cc) in
     elim of.next [
@@ -118,6 +134,7 @@ of_later_or_big Opens TooBigModel model names outside status (inr (small, due)) 
 files_due : (request : Option Request) (outside : Outside) (status : Status) (text : List ℕ) → Answers request outside status text → IsDueOfFiles (IsOpen request) (files_of request) outside status
 files_due None outside status text refused = search rules
 files_due (Some (about_trial number)) outside status text reported = let done = reported.done in search rules
+files_due (Some (about_table table)) outside status text reads = of_table_file table outside status text reads
 files_due (Some (about_model model question)) outside status text reads =
     of_model_file question model (later_files question) (AnswersModel question (behind model outside)) outside status text
     (λ m next. of_later_or_big (IsOpenFor question) (IsTooBigFor question m) model (later_files question) outside status (later_due question (behind model outside) m status text next)) reads
@@ -126,6 +143,9 @@ faulty_only : (request : Option Request) (outside : Outside) (status : Status) (
     → (line : ℕ) (word : FaultWord) → status ≡ ModelRefused line word → ForSome outside.holds (λ files. AsksFaulty files line word request)
 faulty_only None outside status text refused line word is files told = let usage = refused.0 in absurd cc
 faulty_only (Some (about_trial number)) outside status text reported line word is files told = let done = reported.done in absurd cc
+faulty_only (Some (about_table table)) outside status text reads line word is files told =
+    let of = of_text First table AnswersTable outside status text reads (λ e. cc) (λ e. cc) (λ e. cc) in
+    elim (status_of_text of.bytes status text of.next) [ is_planned as_plan ↦ absurd cc | is_unmet as_short ↦ absurd cc | is_refused at_line its as_bad ↦ absurd cc ]
 faulty_only (Some (about_model model question)) outside status text reads line word is files told =
     let of = of_text First model (OfModel (AnswersModel question (behind model outside))) outside status text reads (λ e. cc) (λ e. cc) (λ e. cc) in
     elim of.next [
@@ -143,6 +163,34 @@ faulty_always request outside status text answers read files told line word (que
     let its : Answers (Some (about_model model question)) outside status text = subst (λ (r : Option Request). Answers r outside status text) is answers in
     let next = reached First model (OfModel (AnswersModel question (behind model outside))) outside status text its read files told file.0 file.1 file.2 in
     fault_is_refused (AnswersModel question (behind model outside)) file.0 status text line word next file.3
+
+-- ---- a table that is refused
+
+never_table : (question : Question) (line : ℕ) (word : TableWord) → ends question (TableRefused line word) ≡ false
+never_table solve line word = refl
+never_table question line word = refl
+
+faulty_table_only : (request : Option Request) (outside : Outside) (status : Status) (text : List ℕ) → Answers request outside status text
+    → (line : ℕ) (word : TableWord) → status ≡ TableRefused line word → ForSome outside.holds (λ files. AsksFaultyTable files line word request)
+faulty_table_only None outside status text refused line word is files told = let usage = refused.0 in absurd cc
+faulty_table_only (Some (about_trial number)) outside status text reported line word is files told = let done = reported.done in absurd cc
+faulty_table_only (Some (about_table table)) outside status text reads line word is files told =
+    let of = of_text First table AnswersTable outside status text reads (λ e. cc) (λ e. cc) (λ e. cc) in
+    elim of.next [
+      | inl (at_line, its, fault, refused, said) ↦
+          let line_is : at_line ≡ line = cc in
+          let word_is : its ≡ word = cc in
+          (table, refl, (of.bytes, of.held files told, of.short, rw (← line_is, ← word_is) fault))
+      | inr (t, spells, inl plan) ↦ let done = plan.done in absurd cc
+      | inr (t, spells, inr short) ↦ let cut = short.unmet in absurd cc
+    ]
+faulty_table_only (Some (about_model model question)) outside status text reads line word is files told =
+    let of = of_text First model (OfModel (AnswersModel question (behind model outside))) outside status text reads (λ e. cc) (λ e. cc) (λ e. cc) in
+    elim of.next [
+      | inl (at_line, its, fault, refused, said) ↦ absurd cc
+      | inr (m, spells, next) ↦
+          absurd (not_by (ends question) status (TableRefused line word) (answer_ends question (behind model outside) m status text next) (never_table question line word) is)
+    ]
 
 -- ---- the statuses of one question
 
@@ -258,6 +306,10 @@ due request outside status text answers =
       refused = λ line word. record {
         only = faulty_only request outside status text answers line word;
         always = λ files told asks silent. inl (faulty_always request outside status text answers (quiet silent) files told line word asks);
+      };
+      table_refused = λ line word. record {
+        only = faulty_table_only request outside status text answers line word;
+        always = λ files told asks silent. inl (faulty_table_always request outside status text answers (quiet silent) files told line word asks);
       };
       rejected = record {
         only = λ is files told.

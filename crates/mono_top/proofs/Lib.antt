@@ -5,6 +5,8 @@ pub mod FetchLemmas
 pub mod ModelFileLemmas
 pub mod CheckLemmas
 pub mod Ends
+pub mod TableLemmas
+pub mod TransportLemmas
 pub mod DueLemmas
 pub mod HeadlineLemmas
 pub mod NumberLemmas

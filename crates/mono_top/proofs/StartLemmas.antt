@@ -11,7 +11,7 @@ use Rattle.mono_top.specs.Answer.{ReadsThen}
 use Rattle.mono_top.specs.Fetch.{FetchesModel, text_of}
 use Rattle.mono_top.specs.OfModel.{OfModel}
 use Rattle.mono_top.specs.Reading.{IsFileWith, IsModelFile}
-use Rattle.mono_top.specs.Request.{Request, about_model, about_trial, Question, check, pieces, show_tableau, later_files}
+use Rattle.mono_top.specs.Request.{Request, about_model, about_trial, about_table, Question, check, pieces, show_tableau, later_files}
 use Rattle.mono_top.specs.TooBig.{IsTooBigFor}
 use Rattle.mono_top.specs.Starts.{StartsFiles, StartsLater}
 use Rattle.mono_top.specs.declared.fetch.FetchedModel.TheVariants.{Model, Refused}
@@ -57,6 +57,7 @@ abbrev first_of : Option Request → List ℕ → List ℕ
 first_of None other = other
 first_of (Some (about_model model question)) other = model
 first_of (Some (about_trial number)) other = other
+first_of (Some (about_table table)) other = other
 
 abbrev question_in : Option Request → Question → Question
 question_in (Some (about_model model question)) other = question
@@ -98,6 +99,10 @@ starts_none outside starved started = record { in_turn = started; all = λ files
 -- nor for a trial
 pub starts_none_for_trial : (number : ℕ) (outside : Outside) (starved : Type 0) → outside.started [] → StartsFiles (Some (about_trial number)) outside starved
 starts_none_for_trial number outside starved started = record { in_turn = started; all = λ files told asks quiet. let is = asks.2.1 in absurd cc }
+
+-- the table alone
+pub starts_table : (table : List ℕ) (outside : Outside) (starved : Type 0) → outside.started (table ∷ []) → StartsFiles (Some (about_table table)) outside starved
+starts_table table outside starved started = record { in_turn = started; all = λ files told asks quiet. let is = asks.2.1 in absurd cc }
 
 -- the same with another word for a call that starved
 pub starved_by : (request : Option Request) (outside : Outside) (starved other : Type 0) → (starved → other) → StartsFiles request outside starved → StartsFiles request outside other

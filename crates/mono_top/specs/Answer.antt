@@ -9,13 +9,14 @@ use Rattle.outside_io.specs.Files.{file_of}
 use Rattle.outside_io.specs.Seen.{Outside}
 use Rattle.mono_top.specs.Lines.{usage_line, too_big_line, missing_line, read_fault_line, too_long_line}
 use Rattle.mono_top.specs.Reading.{IsReadPastMost}
-use Rattle.mono_top.specs.Request.{Request, about_model, about_trial, Question, solve, check, pieces, feasible, show_curve, show_tableau}
+use Rattle.mono_top.specs.Request.{Request, about_model, about_trial, about_table, Question, solve, check, pieces, feasible, show_curve, show_tableau}
 use Rattle.mono_top.specs.OfModel.{OfModel}
 use Rattle.mono_top.specs.Checks.{ChecksText}
 use Rattle.mono_top.specs.ShowsCurve.{ShowsCurve}
 use Rattle.mono_top.specs.ShowsPieces.{SplitsText}
 use Rattle.mono_top.specs.ShowsTableau.{ShowsTableau}
 use Rattle.mono_top.specs.TooBig.{IsTooBigFor}
+use Rattle.mono_top.specs.Transports.{AnswersTable}
 use Rattle.mono_top.specs.FindsFeasible.{FindsFeasible}
 use Rattle.mono_top.specs.Solves.{IsCertified}
 use Rattle.mono_top.specs.Reports.{IsReported}
@@ -65,3 +66,4 @@ Answers None outside status text = (status ≡ Usage) × (text ≡ usage_line)
 Answers (Some (about_model model question)) outside status text =
     ReadsThen First model (OfModel (AnswersModel question (behind model outside))) outside status text
 Answers (Some (about_trial number)) outside status text = IsReported (trial_entries number) status text
+Answers (Some (about_table table)) outside status text = ReadsThen First table AnswersTable outside status text

@@ -1,18 +1,14 @@
 -- How often a call reads curves: within the bound of the model that its file spells or its number draws, and else not at all.
-use Rattle.std.specs.Prelude.{◌≡◌, ℕ, ◌+◌, ◌≤◌, List, length, Option, Some, None}
+use Rattle.std.specs.Prelude.{◌≡◌, ℕ, ◌+◌, ◌≤◌, List, Option, Some, None}
 use Rattle.std.specs.Option.{ForSome}
-use Rattle.theory.specs.Network.{Network}
 use Rattle.theory.specs.Grounded.{Entries, grounded}
-use Rattle.theory.specs.Limits.{level_most}
-use Rattle.theory.specs.ReadingBound.{reading_bound}
 use Rattle.outside_io.specs.Files.{Files}
 use Rattle.model_text.specs.ModelText.{Spells}
+use Rattle.mono_top.specs.NetBound.{net_bound}
 use Rattle.mono_top.specs.Reading.{IsFileWith, IsModelFile}
-use Rattle.mono_top.specs.Request.{Request, about_model, about_trial, Question, solve, feasible}
+use Rattle.mono_top.specs.Request.{Request, about_model, about_trial, about_table, Question, solve, feasible}
+use Rattle.mono_top.specs.TableFiles.{ReadsTableFile}
 use Rattle.trial_model.specs.Trial.{trial_entries}
-
-abbrev pub net_bound : Network → ℕ
-net_bound net = reading_bound net.nodes (length net.arcs) level_most
 
 -- the most readings of a model's curves that a question about it takes; one that is not named here takes none
 abbrev pub readings_most : Question → Entries → ℕ
@@ -37,3 +33,4 @@ abbrev pub CountsReadings : Option Request → Option Files → ℕ → ℕ → 
 CountsReadings None holds before now = now ≡ before
 CountsReadings (Some (about_model model question)) holds before now = ReadsWithin model question holds before now
 CountsReadings (Some (about_trial number)) holds before now = ReadsCurves solve (trial_entries number) before now
+CountsReadings (Some (about_table table)) holds before now = ReadsTableFile table holds before now

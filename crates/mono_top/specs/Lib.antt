@@ -9,6 +9,7 @@ pub mod Fetch
 pub mod FindsFeasible
 pub mod Headline
 pub mod Lines
+pub mod NetBound
 pub mod OfModel
 pub mod Reading
 pub mod Replies
@@ -21,6 +22,9 @@ pub mod Solves
 pub mod Starts
 pub mod Status
 pub mod Steady
+pub mod TableFiles
+pub mod TableLines
 pub mod TooBig
+pub mod Transports
 pub mod TrialNumber
 pub mod VerdictLines

@@ -5,7 +5,7 @@ use Rattle.std.specs.Option.{option_map}
 use Rattle.std.specs.declared.alloc.Global.{Global}
 use Rattle.mono_top.specs.TrialNumber.{trial_number}
 use Rattle.mono_top.specs.declared.command.Command.{Command}
-use Rattle.mono_top.specs.declared.command.Command.TheVariants.{OnModel, Trial}
+use Rattle.mono_top.specs.declared.command.Command.TheVariants.{OnModel, Trial, Transport}
 use Rattle.mono_top.specs.declared.command.Task.{Task}
 use Rattle.mono_top.specs.declared.command.Task.TheVariants.{Solve, Check, Pieces, Feasible, Curve, Tableau}
 
@@ -18,10 +18,12 @@ pub data Question : Type 0 where
   show_curve : (arc : List ℕ) → Question
   show_tableau : Question
 
--- what may be asked for: a question about a model, with the name of its file; or the trial model of a number, which names no file
+-- what may be asked for: a question about a model, with the name of its file; the trial model of a number, which names no file; or the plan of
+-- a table, with the name of its file
 pub data Request : Type 0 where
   about_model : (model : List ℕ) (question : Question) → Request
   about_trial : (number : ℕ) → Request
+  about_table : (table : List ℕ) → Request
 
 -- the words, each as its bytes
 abbrev pub texts : List (String Global) → List (List ℕ)
@@ -33,7 +35,8 @@ request_of (command ∷ word ∷ []) =
     if pointwise nat_eq command (codes "trial") then option_map about_trial (trial_number word)
     else (if pointwise nat_eq command (codes "solve") then Some (about_model word solve)
     else (if pointwise nat_eq command (codes "feasible") then Some (about_model word feasible)
-    else (if pointwise nat_eq command (codes "tableau") then Some (about_model word show_tableau) else None)))
+    else (if pointwise nat_eq command (codes "tableau") then Some (about_model word show_tableau)
+    else (if pointwise nat_eq command (codes "transport") then Some (about_table word) else None))))
 request_of (command ∷ model ∷ other ∷ []) =
     if pointwise nat_eq command (codes "check") then Some (about_model model (check other))
     else (if pointwise nat_eq command (codes "pieces") then Some (about_model model (pieces other))
@@ -55,6 +58,7 @@ abbrev pub files_of : Option Request → List (List ℕ)
 files_of None = []
 files_of (Some (about_model model question)) = model ∷ later_files question
 files_of (Some (about_trial number)) = []
+files_of (Some (about_table table)) = table ∷ []
 
 -- a command of the code as what it asks for
 abbrev pub question_by : Task → Question
@@ -68,3 +72,4 @@ question_by Tableau = show_tableau
 abbrev pub request_by : Command → Request
 request_by (OnModel model task) = about_model model.now (question_by task)
 request_by (Trial number) = about_trial number
+request_by (Transport table) = about_table table.now

@@ -6,13 +6,14 @@ use Rattle.outside_io.specs.Files.{Files}
 use Rattle.outside_io.specs.Seen.{Seen, Outside, logged}
 use Rattle.mono_top.specs.Causes.{Asks}
 use Rattle.mono_top.specs.Reading.{IsOpenFor}
-use Rattle.mono_top.specs.Request.{Request, about_model, about_trial, Question, check, pieces, later_files, files_of}
+use Rattle.mono_top.specs.Request.{Request, about_model, about_trial, about_table, Question, check, pieces, later_files, files_of}
 use Rattle.mono_top.specs.TooBig.{IsTooBigFor}
 
 -- the later files are started only where the first one spells a model that is not too big for the question; words that name no file start none
 abbrev pub StartsInTurn : Option Request → Outside → Type 0
 StartsInTurn None outside = outside.started []
 StartsInTurn (Some (about_trial number)) outside = outside.started []
+StartsInTurn (Some (about_table table)) outside = outside.started (table ∷ [])
 StartsInTurn (Some (about_model model question)) outside =
     outside.started (model ∷ [])
     ⊎ outside.started (model ∷ later_files question) × ForSome outside.holds (λ files. IsOpenFor question files model)

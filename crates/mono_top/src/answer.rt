@@ -19,6 +19,7 @@ use crate::show_curve::show_curve;
 use crate::show_tableau::show_tableau;
 use crate::solve::solve;
 use crate::status::Status;
+use crate::transport::transport;
 use crate::trial::trial;
 use model_text::Model;
 use mono_curve::Steps;
@@ -65,6 +66,7 @@ fn do_command<S: Shelf, L: Ledger>(
     match command_of(words) {
         Some(Command::OnModel { model, task }) => Ok(of_model(alloc, shelf, model, task, steps)?),
         Some(Command::Trial { number }) => Ok(trial(alloc, number, steps)?),
+        Some(Command::Transport { table }) => Ok(transport(alloc, shelf, table, steps)?),
         None => Ok(Reply::refusal(Status::Usage, lines::usage())),
     }
 }

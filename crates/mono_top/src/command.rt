@@ -5,11 +5,12 @@ ghost use Rattle.mono_top.specs.TrialNumber.{trial_number};
 
 use crate::trial_number::trial_number;
 
-/// What is asked for: a task on the model of a file, or the trial model of a number, which names no file.
+/// What is asked for: a task on the model of a file, the trial model of a number, which names no file, or the plan of a table.
 #[derive(Clone, Copy)]
 pub(crate) enum Command<'a> {
     OnModel { model: &'a str, task: Task<'a> },
     Trial { number: u64 },
+    Transport { table: &'a str },
 }
 
 /// What is to be done once the model has been read.
@@ -40,6 +41,9 @@ fn with_one<'a>(command: &str, word: &'a str) -> Option<Command<'a>>
 {
     if command == "trial" {
         return trial_of(word);
+    }
+    if command == "transport" {
+        return Some(Command::Transport { table: word });
     }
     let task = if command == "solve" {
         Task::Solve

@@ -15,7 +15,10 @@ mod show_tableau;
 mod solve;
 mod status;
 mod steady;
+mod table_line;
 mod top;
+mod transport;
+mod transport_text;
 mod trial;
 mod trial_number;
 mod verdict_line;
@@ -39,3 +42,5 @@ mod tableau_tests;
 mod tests;
 #[cfg(test)]
 mod torn_tests;
+#[cfg(test)]
+mod transport_tests;

@@ -3,6 +3,7 @@ ghost use Rattle.std.specs.Prelude.{◌≡◌};
 ghost use Rattle.mono_top.specs.Status.{code_of};
 
 use model_text::FaultWord;
+use transport_front::TableWord;
 
 #[derive(Clone, Copy, PartialEq, Eq, Debug)]
 pub enum Status {
@@ -24,6 +25,8 @@ pub enum Status {
     UnknownArc,
     /// The certificate is valid, and there is no flow in it.
     NoFlow,
+    /// The first bad line of the table, counted from 1, and the word for its first fault.
+    TableRefused { line: u32, word: TableWord },
 }
 
 impl Status {
@@ -46,6 +49,7 @@ impl Status {
             Status::TooBig => 11,
             Status::UnknownArc => 12,
             Status::NoFlow => 15,
+            Status::TableRefused { .. } => 18,
         }
     }
 }

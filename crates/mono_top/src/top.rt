@@ -13,6 +13,10 @@ ghost use Rattle.mono_top.specs.Ending.{WritesDue, WritesPart};
 ghost use Rattle.mono_top.specs.Reading.{ReachesMissing, ReachesPastMost, ReachesTooLong, HoldsFirst};
 ghost use Rattle.mono_top.specs.Request.{asked, files_of, solve, feasible};
 ghost use Rattle.mono_top.specs.Starts.{StartsFiles};
+ghost use Rattle.mono_top.specs.TableFiles.{AsksTable, AsksFaultyTable};
+ghost use Rattle.mono_top.specs.Transports.{ConcludesTable};
+ghost use Rattle.transport_front.specs.Table.{Table};
+ghost use Rattle.transport_front.specs.declared.fault.TableWord.{TableWord as TableFault};
 
 use crate::answer::reply_to;
 use crate::status::Status;
@@ -52,6 +56,11 @@ pub fn run<S: Shelf, K: Sink, L: Ledger>(
     ensures feasible { IsUnhindered result → ForSome (S.seen shelf.old).holds (λ files. (m : Entries)
         → Asks files feasible m (asked words.now) → ConcludesFeasible m result) }
 
+    // The plan of a table: none undercuts it, over all fractions; or plants and shops that fall short, where there is none.
+    ensures transport { IsUnhindered result → ForSome (S.seen shelf.old).holds (λ files. (t : Table)
+        → AsksTable files t (asked words.now)
+        → ConcludesTable t result (K.written out.old) (K.written out.new)) }
+
     // A trial names no file, so that nothing of the source bears on it.
     ensures trial { AsksTrial (asked words.now) → EndsTrial result }
 
@@ -81,6 +90,9 @@ pub fn run<S: Shelf, K: Sink, L: Ledger>(
         (since (S.seen shelf.old) (S.seen shelf.new)) result }
     ensures unknown_arc { ComesBy Status.UnknownArc
         (λ files. AsksUnknownArc files (asked words.now))
+        (since (S.seen shelf.old) (S.seen shelf.new)) result }
+    ensures table_refused { (line : ℕ) (word : TableFault) → ComesBy (Status.TableRefused line word)
+        (λ files. AsksFaultyTable files line word (asked words.now))
         (since (S.seen shelf.old) (S.seen shelf.new)) result }
     ensures write_fault { result ≡ Status.WriteFault → Rose (K.faults out.old) (K.faults out.new) }
     ensures no_memory { result ≡ Status.NoMemory → IsSome (asked words.now) }

@@ -6,6 +6,7 @@ use Rattle.mono_top.specs.Request.{asked, solve, feasible}
 use Rattle.mono_top.proofs.DueLemmas.{answer_of, checked}
 use Rattle.mono_top.proofs.StartLemmas.{starved_by}
 use Rattle.mono_top.proofs.HeadlineLemmas.{concludes, concludes_check, concludes_feasible}
+use Rattle.mono_top.proofs.TableLemmas.{table_answer, concludes_table}
 use Rattle.mono_top.proofs.top.run.Goals as goal
 
 pub returns-in-All-clause-headline : goal.returns-in-All-clause-headline
@@ -28,6 +29,14 @@ returns-in-All-clause-feasible g c unhindered files told m asks =
     let outside = since (g.S.Shelf.seen c.args.shelf.now) (g.S.Shelf.seen c.reply_to.new.shelf) in
     let found_so = answer_of (asked c.args.words.now) outside c.in-Ok.reply.status (text_of c.in-Ok.reply.text) c.in-Ok.ensures.replies unhindered.read files told feasible m asks in
     concludes_feasible m c.in-Ok.reply.status (text_of c.in-Ok.reply.text) found_so.0 found_so.1
+
+pub returns-in-All-clause-transport : goal.returns-in-All-clause-transport
+returns-in-All-clause-transport g c unhindered files told t asks =
+    let outside = since (g.S.Shelf.seen c.args.shelf.now) (g.S.Shelf.seen c.reply_to.new.shelf) in
+    let grew : Grew (g.K.Sink.written c.args.out.now) (g.K.Sink.written c.write_all.new.out) (text_of c.in-Ok.reply.text) =
+    rw (← c.as_slice.ensures) (c.write_all.ensures.all c.in-All.is) in
+    let plans = table_answer (asked c.args.words.now) outside c.in-Ok.reply.status (text_of c.in-Ok.reply.text) c.in-Ok.ensures.replies unhindered.read files told t asks in
+    concludes_table t c.in-Ok.reply.status (text_of c.in-Ok.reply.text) (g.K.Sink.written c.args.out.now) (g.K.Sink.written c.write_all.new.out) plans grew
 
 -- a call starves where its work does
 pub returns-in-Err-clause-starts : goal.returns-in-Err-clause-starts
