@@ -1,4 +1,4 @@
--- Numbers beyond the limit: what the reader keeps of them shows that they are, and the others are kept as they are.
+-- The part of a line that lists a curve. Of numbers beyond the limit the reader keeps what shows that they are, and the others as they are.
 use Rattle.std.specs.Prelude.{◌≡◌, ℕ, zero, suc, ◌+◌, min, nat_lt, ℤ, pos, negsuc, neg_ℤ, Bool, true, false, ◌||◌, is_none, if◌then◌else◌, Option, None, Some, Err, List, [], ◌∷◌, length, map, refl}
 use Rattle.std.proofs.Common.{arith, sym, ◌∙◌, ap}
 use Rattle.std.specs.List.{list_any}
@@ -9,11 +9,14 @@ use Rattle.theory.specs.Limits.{number_most, list_most}
 use Rattle.model_text.proofs.ListTests.{neither}
 use Rattle.model_text.specs.declared.fault.FaultWord.{FaultWord}
 use Rattle.model_text.specs.declared.fault.FaultWord.TheVariants.{Number, Limit}
-use Rattle.model_text.specs.declared.fault.Refusal.{Refusal}
-use Rattle.model_text.specs.declared.fault.Refusal.TheVariants.{Fault, NoMemory}
-use Rattle.model_text.specs.LineParts.{item_tests, number_tests, Passes}
+use Rattle.model_text.specs.declared.fault.PartFault.{PartFault}
+use Rattle.model_text.specs.declared.fault.PartFault.TheVariants.{Word, NoMemory}
+use Rattle.mono_curve.specs.declared.curve.Curve.{Curve}
+use Rattle.theory.specs.Grounded.{Entries}
+use Rattle.model_text.specs.LineParts.{item_tests, number_tests, shape_tests, curve_tests, Passes}
+use Rattle.model_text.specs.declared.part.Numbers.{Numbers}
 use Rattle.model_text.specs.NumberWords.{item_of}
-use Rattle.model_text.specs.ModelText.{is_over, are_over, is_beyond, is_no_base, lacks_names, lacks_numbers, first_fault, list_words, base_words, line_items, line_base}
+use Rattle.model_text.specs.ModelText.{is_over, are_over, is_no_base, part_list, from_base, part_items, part_base, part_listing, part_lacks_numbers, part_is_beyond, body, line_items, line_listing, lacks_names, lacks_numbers, is_beyond, is_full, is_misshapen, is_node_line, first_fault}
 use Rattle.model_text.specs.NearNumbers.{near_number, near_item}
 
 over-neg : (m : ℕ) → is_over (neg_ℤ (pos m)) ≡ nat_lt number_most m
@@ -42,46 +45,85 @@ items-exact (At z ∷ items) within =
     ap (λ number. At number ∷ map near_item items) (near-exact z two.0) ∙ ap (λ rest. At z ∷ rest) (items-exact items two.1)
 items-exact (PlusInf ∷ items) within = ap (λ rest. PlusInf ∷ rest) (items-exact items within)
 
-pub beyond_long : (words : List (List ℕ)) → nat_lt list_most (length (list_words words)) ≡ true → is_beyond words ≡ true
-unfolding is_beyond
-beyond_long words long = rw long refl
+module _ (part : List (List ℕ)) where
+  pub beyond_long : nat_lt list_most (length (part_list part)) ≡ true → part_is_beyond part ≡ true
+  unfolding part_is_beyond
+  beyond_long long = rw long refl
 
--- what was kept is beyond the limit exactly where the line is
-pub beyond_kept : (words : List (List ℕ)) (items : List Ext) (base : ℤ) → items ≡ map near_item (line_items words) → base ≡ near_number (line_base words)
-    → nat_lt list_most (length (list_words words)) ≡ false → is_beyond words ≡ (are_over items || is_over base)
-unfolding is_beyond
-beyond_kept words items base items-is base-is short =
-    rw (short, items-is, base-is, items-over (line_items words), near-over (line_base words)) refl
+  -- what was kept is beyond the limit exactly where the part is
+  pub beyond_kept : (items : List Ext) (base : ℤ) → items ≡ map near_item (part_items part) → base ≡ near_number (part_base part)
+      → nat_lt list_most (length (part_list part)) ≡ false → part_is_beyond part ≡ (are_over items || is_over base)
+  unfolding part_is_beyond
+  beyond_kept items base items-is base-is short =
+      rw (short, items-is, base-is, items-over (part_items part), near-over (part_base part)) refl
 
-pub items_kept : (words : List (List ℕ)) (items : List Ext) → items ≡ map near_item (line_items words) → are_over items ≡ false → items ≡ line_items words
-items_kept words items is within = is ∙ items-exact (line_items words) (sym (items-over (line_items words)) ∙ sym (ap are_over is) ∙ within)
+  pub items_kept : (items : List Ext) → items ≡ map near_item (part_items part) → are_over items ≡ false → items ≡ part_items part
+  items_kept items is within = is ∙ items-exact (part_items part) (sym (items-over (part_items part)) ∙ sym (ap are_over is) ∙ within)
 
-pub base_kept : (words : List (List ℕ)) (base : ℤ) → base ≡ near_number (line_base words) → is_over base ≡ false → base ≡ line_base words
-base_kept words base is within = is ∙ near-exact (line_base words) (sym (near-over (line_base words)) ∙ sym (ap is_over is) ∙ within)
+  pub base_kept : (base : ℤ) → base ≡ near_number (part_base part) → is_over base ≡ false → base ≡ part_base part
+  base_kept base is within = is ∙ near-exact (part_base part) (sym (near-over (part_base part)) ∙ sym (ap is_over is) ∙ within)
 
--- ---- the words of a line that are to be numbers
+  -- ---- the words that are to be numbers
 
-pub numbers-lacking : (words : List (List ℕ)) → is_no_base (base_words words) ≡ true → lacks_numbers words ≡ true
-unfolding lacks_numbers
-numbers-lacking words none = grind arith
+  pub numbers-lacking : is_no_base (from_base part) ≡ true → part_lacks_numbers part ≡ true
+  unfolding part_lacks_numbers
+  numbers-lacking none = grind arith
 
-pub numbers-there : (words : List (List ℕ)) → first_fault (item_tests (list_words words)) ≡ None → is_no_base (base_words words) ≡ false → lacks_numbers words ≡ false
-unfolding lacks_numbers
-numbers-there words listed based = rw (passed (list_any (λ word. is_none (item_of word)) (list_words words)) listed, based) refl
-  where
-    passed : (fails : Bool) → ◌≡◌ {A = Option FaultWord} (if fails then Some Number else None) None → fails ≡ false
-    passed true is = cc
-    passed false is = refl
+  pub numbers-there : first_fault (item_tests (part_list part)) ≡ None → is_no_base (from_base part) ≡ false → part_lacks_numbers part ≡ false
+  unfolding part_lacks_numbers
+  numbers-there listed based = rw (passed (list_any (λ word. is_none (item_of word)) (part_list part)) listed, based) refl
+    where
+      passed : (fails : Bool) → ◌≡◌ {A = Option FaultWord} (if fails then Some Number else None) None → fails ≡ false
+      passed true is = cc
+      passed false is = refl
 
--- what refuses the list refuses the line
-pub list-refused : (words : List (List ℕ)) (refusal : Refusal) → lacks_names words ≡ false → Passes {A = List Ext} (item_tests (list_words words)) (Err refusal)
-    → Passes {A = List Ext} (number_tests words) (Err refusal)
-unfolding lacks_numbers
-list-refused words (Fault word) names refused =
-    rw names (fault-by (list_any (λ word. is_none (item_of word)) (list_words words)) refused)
-  where
-    fault-by : (fails : Bool) → ◌≡◌ {A = Option FaultWord} (if fails then Some Number else None) (Some word)
-        → (if fails || is_no_base (base_words words) then Some Number else (if is_beyond words then Some Limit else None)) ≡ Some word
-    fault-by true is = is
-    fault-by false is = cc
-list-refused words NoMemory names refused = tt
+  -- what refuses the list refuses the part
+  pub list-refused : (listed : List (List ℕ)) (fault : PartFault) → listed ≡ part_list part → Passes {A = List Ext} (item_tests listed) (Err fault)
+      → Passes {A = Numbers} (number_tests part) (Err fault)
+  unfolding part_lacks_numbers
+  list-refused listed (Word word) is refused = rw (← is) (fault-by (list_any (λ word. is_none (item_of word)) listed) refused)
+    where
+      fault-by : (fails : Bool) → ◌≡◌ {A = Option FaultWord} (if fails then Some Number else None) (Some word)
+          → (if fails || is_no_base (from_base part) then Some Number else (if part_is_beyond part then Some Limit else None)) ≡ Some word
+      fault-by true is = is
+      fault-by false is = cc
+  list-refused listed NoMemory is refused = tt
+
+-- ---- the same of a line whose words behind the names are the part
+
+module _ (m : Entries) (words part : List (List ℕ)) (is : part ≡ body words) (named : lacks_names words ≡ false) where
+  pub numbers-refused : (fault : PartFault) → Passes {A = Numbers} (number_tests part) (Err fault) → Passes {A = Curve} (curve_tests m words) (Err fault)
+  unfolding lacks_numbers is_beyond
+  numbers-refused (Word word) refused =
+      rw (named, ← is) (by _ (part_lacks_numbers part) (part_is_beyond part) refused)
+    where
+      by : (others : Option FaultWord) (lacks beyond : Bool)
+          → ◌≡◌ {A = Option FaultWord} (if lacks then Some Number else (if beyond then Some Limit else None)) (Some word)
+          → (if lacks then Some Number else (if beyond then Some Limit else others)) ≡ Some word
+      by others true beyond is = is
+      by others false true is = is
+      by others false false is = cc
+  numbers-refused NoMemory refused = tt
+
+  pub numbers-passed : first_fault (number_tests part) ≡ None → (lacks_numbers words ≡ false) × (is_beyond words ≡ false)
+  unfolding lacks_numbers is_beyond
+  numbers-passed passed = rw (← is) (by (part_lacks_numbers part) (part_is_beyond part) passed)
+    where
+      by : (lacks beyond : Bool) → ◌≡◌ {A = Option FaultWord} (if lacks then Some Number else (if beyond then Some Limit else None)) None
+          → (lacks ≡ false) × (beyond ≡ false)
+      by true beyond passed = cc
+      by false true passed = cc
+      by false false passed = (refl, refl)
+
+  pub room-lacking : first_fault (number_tests part) ≡ None → is_full m words ≡ true → first_fault (curve_tests m words) ≡ Some Limit
+  room-lacking passed full = let numbers = numbers-passed passed in rw (named, numbers.0, numbers.1, full) refl
+
+  -- then only the shape of the list is left to test
+  pub shape-left : first_fault (number_tests part) ≡ None → is_full m words ≡ false
+      → first_fault (curve_tests m words) ≡ first_fault (shape_tests (is_node_line words) (part_items part))
+  unfolding is_misshapen line_items
+  shape-left passed room = let numbers = numbers-passed passed in rw (named, numbers.0, numbers.1, room, is) refl
+
+  pub listing-is : part_listing part ≡ line_listing words
+  unfolding line_listing
+  listing-is = ap part_listing is

@@ -1,4 +1,4 @@
--- The parts of a line: its keyword, its names, its list, and what stands from `base` on.
+-- The parts of a line: its keyword, its names, and what stands behind them; and the words of a list, read in turn.
 use Rattle.std.specs.Prelude.{◌≡◌, ℕ, ◌+◌, ◌-◌, ◌++◌, ◌<◌, min, Bool, true, false, not, ◌||◌, nat_lt, is_none, unwrap_or, pos, if◌then◌else◌, Option, None, Some, List, [], ◌∷◌, length, take, drop, map, codes, refl}
 use Rattle.std.specs.Borrow.{Bor}
 use Rattle.std.specs.List.{position_or_len, list_all, list_any}
@@ -11,10 +11,10 @@ use Rattle.std.proofs.lemmas.Slice.Eq.{bytes_eq-Decides}
 use Rattle.model_text.specs.declared.fault.FaultWord.TheVariants.{Number}
 use Rattle.model_text.specs.declared.line.Kind.{Kind}
 use Rattle.model_text.specs.declared.line.Kind.TheVariants.{Node, Arc}
-use Rattle.model_text.specs.ModelText.{is_node_line, is_arc_line, is_base_word, line_names, list_words, base_words, names_wanted, body, list_count, lacks_names, line_items, line_base, word_at, first_fault}
+use Rattle.model_text.specs.ModelText.{is_node_line, is_arc_line, is_base_word, word_at, line_names, names_wanted, part_list, from_base, part_items, part_base, lacks_names, first_fault}
 use Rattle.model_text.specs.Names.{is_name}
 use Rattle.model_text.specs.NumberWords.{item_of, number_of}
-use Rattle.model_text.specs.NearNumbers.{near_item}
+use Rattle.model_text.specs.NearNumbers.{near_item, near_number}
 use Rattle.theory.specs.declared.ext.Ext.{Ext}
 use Rattle.theory.specs.declared.ext.Ext.TheVariants.{MinusInf}
 use Rattle.model_text.specs.LineParts.{texts, is_node, keyword_kind, AreParts, item_tests}
@@ -64,31 +64,35 @@ drop-texts : (n : ℕ) (words : List (Bor (List ℕ))) → texts (drop n words) 
 drop-texts n words = sym (drop-map (λ word. word.now) n words)
 
 -- what the code cuts off, in turn
-pub parts : (words : List (Bor (List ℕ))) (d : Bor (List ℕ)) (kind : Kind) (wanted count : ℕ) (rest names after list base : List (Bor (List ℕ)))
+pub parts : (words : List (Bor (List ℕ))) (d : Bor (List ℕ)) (kind : Kind) (wanted : ℕ) (rest names part : List (Bor (List ℕ)))
     → 0 < length words → keyword_kind (get_or words 0 d).now ≡ Some kind
     → rest ≡ take (length words - 1) (drop 1 words) → wanted ≡ (if is_node kind then 1 else 3)
-    → names ≡ take (min wanted (length rest)) rest → after ≡ drop (min wanted (length rest)) rest
-    → count ≡ position_or_len is_base_word (texts after)
-    → list ≡ take count after → base ≡ drop count after
-    → AreParts (texts words) kind (texts names) (texts list) (texts base)
-unfolding line_names list_words base_words
-parts words d kind wanted count rest names after list base some is rest-is wanted-is names-is after-is count-is list-is base-is =
+    → names ≡ take (min wanted (length rest)) rest → part ≡ drop (min wanted (length rest)) rest
+    → AreParts (texts words) kind (texts names) (texts part)
+unfolding line_names
+parts words d kind wanted rest names part some is rest-is wanted-is names-is part-is =
     let kinds = keyword-is words d kind some is in
     let rests : rest ≡ drop 1 words = rest-is ∙ take_rest words 1 in
     let wants : wanted ≡ names_wanted (texts words) = wanted-is ∙ ap (λ b. if b then 1 else 3) (sym kinds.0) in
-    let bodies : texts after ≡ body (texts words) =
-    ap texts (after-is ∙ drop_min wanted rest ∙ ap (drop wanted) rests) ∙ drop-texts wanted (drop 1 words)
-    ∙ ap (drop wanted) (drop-texts 1 words) ∙ ap (λ n. drop n (drop 1 (texts words))) wants in
-    let counts : count ≡ list_count (texts words) = count-is ∙ ap (position_or_len is_base_word) bodies in
     record {
       node = kinds.0;
       arc = kinds.1;
       names =
           ap texts (names-is ∙ take_min wanted rest ∙ ap (take wanted) rests) ∙ take-texts wanted (drop 1 words)
           ∙ ap (take wanted) (drop-texts 1 words) ∙ ap (λ n. take n (drop 1 (texts words))) wants;
-      list = ap texts list-is ∙ take-texts count after ∙ rw (counts, bodies) refl;
-      base = ap texts base-is ∙ drop-texts count after ∙ rw (counts, bodies) refl;
+      part =
+          ap texts (part-is ∙ drop_min wanted rest ∙ ap (drop wanted) rests) ∙ drop-texts wanted (drop 1 words)
+          ∙ ap (drop wanted) (drop-texts 1 words) ∙ ap (λ n. drop n (drop 1 (texts words))) wants;
     }
+
+-- the split of a part at the word `base`
+pub list-is : (part list : List (Bor (List ℕ))) (count : ℕ) → count ≡ position_or_len is_base_word (texts part) → list ≡ take count part
+    → texts list ≡ part_list (texts part)
+list-is part list count count-is is = ap texts is ∙ take-texts count part ∙ ap (λ n. take n (texts part)) count-is
+
+pub based-is : (part based : List (Bor (List ℕ))) (count : ℕ) → count ≡ position_or_len is_base_word (texts part) → based ≡ drop count part
+    → texts based ≡ from_base (texts part)
+based-is part based count count-is is = ap texts is ∙ drop-texts count part ∙ ap (λ n. drop n (texts part)) count-is
 
 -- ---- the tests of a line, on its parts
 
@@ -96,29 +100,37 @@ list_any-texts : (p : List ℕ → Bool) (words : List (Bor (List ℕ))) → lis
 list_any-texts p [] = refl
 list_any-texts p (word ∷ words) = ap (λ b. p word.now || b) (list_any-texts p words)
 
-pub lacks_names-is : {words list base : List (List ℕ)} {kind : Kind} (names : List (Bor (List ℕ))) → AreParts words kind (texts names) list base
+pub lacks_names-is : {words part : List (List ℕ)} {kind : Kind} (names : List (Bor (List ℕ))) → AreParts words kind (texts names) part
     → lacks_names words ≡ (nat_lt (length names) (if is_node kind then 1 else 3) || not (list_all (λ word. is_name word.now) names))
 unfolding lacks_names
 lacks_names-is names parts =
     rw (← parts.names, parts.node, list_all-map is_name (λ word. word.now) names, length-map) refl
-
-near-items : (list : List (Bor (List ℕ)))
-    → map (λ word. near_item (unwrap_or (item_of word.now) MinusInf)) list ≡ map near_item (map (λ word. unwrap_or (item_of word) MinusInf) (texts list))
-near-items [] = refl
-near-items (word ∷ list) = ap (λ items. near_item (unwrap_or (item_of word.now) MinusInf) ∷ items) (near-items list)
-
-pub line_items-is : {words names base : List (List ℕ)} {kind : Kind} (list : List (Bor (List ℕ))) → AreParts words kind names (texts list) base
-    → map near_item (line_items words) ≡ map (λ word. near_item (unwrap_or (item_of word.now) MinusInf)) list
-unfolding line_items
-line_items-is list parts = rw (← parts.list) (sym (near-items list))
-
--- ---- the words of a list, read one after the other
 
 abbrev pub lacks_item : Bor (List ℕ) → Bool
 lacks_item word = is_none (item_of word.now)
 
 abbrev pub near_of : Bor (List ℕ) → Ext
 near_of word = near_item (unwrap_or (item_of word.now) MinusInf)
+
+near-items : (list : List (Bor (List ℕ)))
+    → map (λ word. near_item (unwrap_or (item_of word.now) MinusInf)) list ≡ map near_item (map (λ word. unwrap_or (item_of word) MinusInf) (texts list))
+near-items [] = refl
+near-items (word ∷ list) = ap (λ items. near_item (unwrap_or (item_of word.now) MinusInf) ∷ items) (near-items list)
+
+-- what was read of the list of a part
+pub items-near : (part list : List (Bor (List ℕ))) → texts list ≡ part_list (texts part) → map near_of list ≡ map near_item (part_items (texts part))
+unfolding part_items
+items-near part list is = near-items list ∙ ap (λ listed. map near_item (map (λ word. unwrap_or (item_of word) MinusInf) listed)) is
+
+pub base-near : (part based : List (Bor (List ℕ))) → texts based ≡ from_base (texts part)
+    → near_number (unwrap_or (number_of (word_at (texts based) 1)) (pos 0)) ≡ near_number (part_base (texts part))
+unfolding part_base
+base-near part based is = ap (λ words. near_number (unwrap_or (number_of (word_at words 1)) (pos 0))) is
+
+pub list-length : (part list : List (Bor (List ℕ))) → texts list ≡ part_list (texts part) → length (part_list (texts part)) ≡ length list
+list-length part list is = sym (ap length is) ∙ length-map list (λ word. word.now)
+
+-- ---- the words of a list, read one after the other
 
 module _ (words : List (Bor (List ℕ))) (k : ℕ) (d : Bor (List ℕ)) (below : k < length words) where
   -- a word that is an item
@@ -157,13 +169,6 @@ list-fails words fails = rw (sym (list_any-texts (λ word. is_none (item_of word
 
 pub list-passes : (words : List (Bor (List ℕ))) → list_any lacks_item words ≡ false → first_fault (item_tests (texts words)) ≡ None
 list-passes words passes = rw (sym (list_any-texts (λ word. is_none (item_of word)) words) ∙ passes) refl
-
--- ---- the base
-
-pub line_base-is : {words names list : List (List ℕ)} {kind : Kind} (base : List (List ℕ)) → AreParts words kind names list base
-    → unwrap_or (number_of (word_at base 1)) (pos 0) ≡ line_base words
-unfolding line_base
-line_base-is base parts = rw (← parts.base) refl
 
 -- what a read past the end would give
 abbrev pub nothing : Bor (List ℕ)

@@ -11,7 +11,7 @@ use Rattle.theory.specs.Grounded.{Entries, NodeEntry}
 use Rattle.theory.specs.Limits.{nodes_most, arcs_most, list_most}
 use Rattle.model_text.specs.Model.{IsWithinLimits, node_names, arc_names, place_of, with_node, with_arc}
 use Rattle.model_text.specs.Names.{is_name}
-use Rattle.model_text.specs.ModelText.{first_fault, entry_tests, with_line, line_listing, line_items, line_base, list_words, base_words, list_count, body, line_names, is_node_line, is_arc_line, lacks_names, lacks_numbers, is_beyond, is_full, is_misshapen, has_fall, is_twice, is_unknown, is_loop, is_base_word, word_at}
+use Rattle.model_text.specs.ModelText.{first_fault, entry_tests, with_line, line_listing, part_listing, line_items, part_items, part_base, part_list, from_base, part_lacks_numbers, part_is_beyond, body, line_names, is_node_line, is_arc_line, lacks_names, lacks_numbers, is_beyond, is_full, is_misshapen, has_fall, is_twice, is_unknown, is_loop, is_base_word, word_at}
 use Rattle.model_text.specs.NumberWords.{item_of, number_of}
 use Rattle.theory.specs.declared.ext.Ext.TheVariants.{MinusInf}
 use Rattle.model_text.specs.Printed.{printed_list, printed_base, printed_curve, printed_end}
@@ -27,50 +27,49 @@ arc_words name tail head curve = codes "arc" ∷ name ∷ tail ∷ head ∷ prin
 -- ---- any line whose words after the names are a printed curve
 
 module _ (words : List (List ℕ)) (curve : Listing) (limits : IsWithinLimits curve) (is_list : IsCurveList curve.items) (printed : body words ≡ printed_curve curve) where
-  ends : list_count words ≡ length (printed_list curve.items)
+  ends : position_or_len is_base_word (body words) ≡ length (printed_list curve.items)
   ends = ap (λ l. position_or_len is_base_word l) printed ∙ list-ends curve.items curve.base limits.items
 
-  list-is : list_words words ≡ printed_list curve.items
-  unfolding list_words
+  list-is : part_list (body words) ≡ printed_list curve.items
   list-is = rw (ends, printed) (take_at (printed_list curve.items) (printed_base curve.base) (length (printed_list curve.items)) refl)
 
-  based-is : base_words words ≡ printed_base curve.base
-  unfolding base_words
+  based-is : from_base (body words) ≡ printed_base curve.base
   based-is = rw (ends, printed) (drop-append_seam (printed_list curve.items) (printed_base curve.base))
 
-  items-are : line_items words ≡ curve.items
-  unfolding line_items
+  items-are : part_items (body words) ≡ curve.items
+  unfolding part_items
   items-are = ap (map (λ word. unwrap_or (item_of word) MinusInf)) list-is ∙ list-read curve.items limits.items
 
-  base-are : line_base words ≡ curve.base
-  unfolding line_base
+  base-are : part_base (body words) ≡ curve.base
+  unfolding part_base
   base-are = ap (λ l. unwrap_or (number_of (word_at l 1)) (pos 0)) based-is ∙ base-read curve.base limits.base
 
   some-items : (length curve.items == 0) ≡ false
   some-items = let odd = is_list.odd in grind (arith, nat_tests)
 
   listing-read : line_listing words ≡ curve
-  unfolding line_listing
+  unfolding line_listing part_listing
   listing-read = rw (items-are, base-are, some-items) refl
 
   numbers-there : lacks_numbers words ≡ false
-  unfolding lacks_numbers
+  unfolding lacks_numbers part_lacks_numbers
   numbers-there = rw (list-is, based-is, list-items curve.items limits.items) (base-is-one curve.base limits.base)
 
   in-limits : is_beyond words ≡ false
-  unfolding is_beyond
+  unfolding is_beyond part_is_beyond
   in-limits =
-      let short : nat_lt list_most (length (list_words words)) ≡ false =
+      let short : nat_lt list_most (length (part_list (body words))) ≡ false =
       rw (list-is, length-map curve.items printed_end) (let most = limits.short in grind (arith, nat_tests)) in
       rw (short, items-are, base-are, within-small curve.items limits.items) (base-small curve.base limits.base)
 
   well-shaped : is_misshapen words ≡ false
-  unfolding is_misshapen
+  unfolding is_misshapen line_items
   well-shaped =
       let even : (length curve.items % 2 == 0) ≡ false = let odd = is_list.odd in grind (arith, nat_tests) in
       rw (items-are, even, list-placed curve.items is_list) (list-single curve.items is_list)
 
   ordered : has_fall (line_items words) ≡ false
+  unfolding line_items
   ordered = ap has_fall items-are ∙ list-rises curve.items is_list
 
 -- ---- a node

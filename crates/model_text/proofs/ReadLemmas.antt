@@ -10,8 +10,8 @@ use Rattle.std.proofs.lemmas.Str.{IsUtf8-from_is_utf8, is_utf8-from_IsUtf8}
 use Rattle.theory.specs.Grounded.{Entries}
 use Rattle.model_text.specs.declared.fault.FaultWord.{FaultWord}
 use Rattle.model_text.specs.declared.fault.FaultWord.TheVariants.{Utf8, Header}
-use Rattle.model_text.specs.declared.fault.Refusal.{Refusal}
-use Rattle.model_text.specs.declared.fault.Refusal.TheVariants.{Fault, NoMemory}
+use Rattle.model_text.specs.declared.fault.PartFault.{PartFault}
+use Rattle.model_text.specs.declared.fault.PartFault.TheVariants.{Word, NoMemory}
 use Rattle.model_text.specs.Lines.{line_words, text_lines}
 use Rattle.model_text.specs.Reading.{IsRightError, error_at}
 use Rattle.model_text.specs.ModelText.{first_fault, line_tests, entry_tests, has_words, is_header, with_line, is_node_line, is_arc_line, word_at, fault_at, NoFaultBefore, bad_line}
@@ -93,13 +93,13 @@ some-words line some = let other : (length (line_words line) == 0) ≡ false = g
 
 -- a result that passes tests passes others with the same first fault
 pub passes-same : {A : Type 0} (tests others : List (Bool × FaultWord)) → first_fault tests ≡ first_fault others
-    → (answer : Result A Refusal) → Passes others answer → Passes tests answer
+    → (answer : Result A PartFault) → Passes others answer → Passes tests answer
 passes-same tests others same (Ok value) passed = same ∙ passed
-passes-same tests others same (Err (Fault word)) passed = same ∙ passed
+passes-same tests others same (Err (Word word)) passed = same ∙ passed
 passes-same tests others same (Err NoMemory) passed = tt
 
 -- a refused line is the first bad line, where those before it are not
-pub right_error : (text : List ℕ) (k : ℕ) (refusal : Refusal) (tests : List (Bool × FaultWord)) → k < length (text_lines text) → NoFaultBefore (text_lines text) k
+pub right_error : (text : List ℕ) (k : ℕ) (refusal : PartFault) (tests : List (Bool × FaultWord)) → k < length (text_lines text) → NoFaultBefore (text_lines text) k
     → fault_at (text_lines text) k ≡ first_fault tests → Passes {A = Unit {0}} tests (Err refusal) → IsRightError text (error_at (k + 1) refusal)
-right_error text k (Fault word) tests here before fault told = bad_line here before (fault ∙ told)
+right_error text k (Word word) tests here before fault told = bad_line here before (fault ∙ told)
 right_error text k NoMemory tests here before fault told = tt

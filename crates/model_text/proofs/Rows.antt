@@ -8,7 +8,7 @@ use Rattle.model_text.specs.declared.fault.FaultWord.TheVariants.{Header, Keywor
 use Rattle.model_text.specs.Names.{is_name}
 use Rattle.model_text.specs.Lines.{text_lines, line_words, content}
 use Rattle.model_text.specs.NumberWords.{number_of}
-use Rattle.model_text.specs.ModelText.{first_fault, line_tests, entries_of, with_line, line_listing, line_names, line_items, line_base, list_words, base_words, is_node_line, is_arc_line, lacks_names, lacks_numbers, is_beyond, is_full, is_misshapen, has_fall, is_twice, is_unknown, is_loop, is_header, has_words, IsFirstFault, no_words}
+use Rattle.model_text.specs.ModelText.{first_fault, line_tests, entries_of, with_line, line_listing, part_listing, line_names, line_items, part_items, part_base, part_lacks_numbers, part_is_beyond, is_node_line, is_arc_line, lacks_names, lacks_numbers, is_beyond, is_full, is_misshapen, has_fall, is_twice, is_unknown, is_loop, is_header, has_words, IsFirstFault, no_words}
 
 -- the fault of a line by its words, after others; a test for UTF-8 doesn't compute here
 abbrev after : List (List ℕ) → List ℕ → Option FaultWord
@@ -44,7 +44,7 @@ refused =
     ∷ []
 
 refused_right : map (λ row. fourth row.0) refused ≡ map (λ row. Some row.1) refused
-unfolding refused line_tests entries_of with_line line_words content line_listing line_names line_items line_base list_words base_words is_node_line is_arc_line lacks_names lacks_numbers is_beyond is_full is_misshapen has_fall is_twice is_unknown is_loop is_header has_words
+unfolding refused line_tests entries_of with_line line_words content line_listing part_listing line_names line_items part_items part_base part_lacks_numbers part_is_beyond is_node_line is_arc_line lacks_names lacks_numbers is_beyond is_full is_misshapen has_fall is_twice is_unknown is_loop is_header has_words
 refused_right = refl
 
 -- names come first, then the split at `base`
@@ -52,7 +52,7 @@ accepted : List (List ℕ)
 accepted = codes "arc a s t 3" ∷ codes "arc a s t -1000000000 -1000000000 0 1000000000 1000000000" ∷ codes "node base 5" ∷ []
 
 accepted_right : map fourth accepted ≡ map (λ line. None) accepted
-unfolding accepted line_tests entries_of with_line line_words content line_listing line_names line_items line_base list_words base_words is_node_line is_arc_line lacks_names lacks_numbers is_beyond is_full is_misshapen has_fall is_twice is_unknown is_loop is_header has_words
+unfolding accepted line_tests entries_of with_line line_words content line_listing part_listing line_names line_items part_items part_base part_lacks_numbers part_is_beyond is_node_line is_arc_line lacks_names lacks_numbers is_beyond is_full is_misshapen has_fall is_twice is_unknown is_loop is_header has_words
 accepted_right = refl
 
 -- a used name and equal ends; `base` as a name and in its own place; no header before a line
@@ -64,7 +64,7 @@ others =
     ∷ []
 
 others_right : map (λ row. after row.0 row.1) others ≡ map (λ row. row.2) others
-unfolding others line_tests entries_of with_line line_words content line_listing line_names line_items line_base list_words base_words is_node_line is_arc_line lacks_names lacks_numbers is_beyond is_full is_misshapen has_fall is_twice is_unknown is_loop is_header has_words
+unfolding others line_tests entries_of with_line line_words content line_listing part_listing line_names line_items part_items part_base part_lacks_numbers part_is_beyond is_node_line is_arc_line lacks_names lacks_numbers is_beyond is_full is_misshapen has_fall is_twice is_unknown is_loop is_header has_words
 others_right = refl
 
 words_right : line_words (codes "\tnode  n +2 03 06 base 10 # rest" ++ 13 ∷ [])
@@ -78,7 +78,7 @@ listings_right : map (λ line. line_listing (line_words line)) (codes "node n +2
     ∷ record { items = MinusInf ∷ At (pos 3) ∷ PlusInf ∷ []; base = pos 0 }
     ∷ record { items = At (pos 0) ∷ []; base = pos 4 }
     ∷ []
-unfolding line_words content line_listing line_items line_base list_words base_words is_node_line
+unfolding line_words content line_listing part_listing part_items part_base is_node_line
 listings_right = refl
 
 lines_right : text_lines (codes "a" ++ 13 ∷ 10 ∷ 10 ∷ codes "b") ≡ (codes "a" ++ 13 ∷ []) ∷ [] ∷ codes "b" ∷ []

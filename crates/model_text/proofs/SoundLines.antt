@@ -1,5 +1,5 @@
 -- What a line that passes the tests may add to the model: its names are names, and the model has room for it.
-use Rattle.std.specs.Prelude.{◌≡◌, ◌≢◌, ℕ, zero, suc, ◌<◌, ◌==◌, nat_lt, nat_le, Bool, true, false, not, ◌&&◌, ◌||◌, if◌then◌else◌, Option, None, Some, is_some, List, [], ◌∷◌, ◌++◌, length, take, drop, refl}
+use Rattle.std.specs.Prelude.{◌≡◌, ◌≢◌, ℕ, zero, suc, ◌<◌, ◌==◌, nat_lt, nat_le, Bool, true, false, not, ◌&&◌, ◌||◌, if◌then◌else◌, Option, None, Some, is_some, List, [], ◌∷◌, length, take, drop, refl}
 use Rattle.std.specs.List.{list_all}
 use Rattle.std.specs.Str.{bytes_eq}
 use Rattle.std.proofs.Common.{arith, get_or, ◌∙◌, sym, ap}
@@ -10,12 +10,10 @@ use Rattle.std.proofs.lemmas.Grind.{get_or_after_one}
 use Rattle.std.proofs.lemmas.List.Sums.{passes_at_first}
 use Rattle.std.proofs.lemmas.Slice.Eq.{bytes_eq-Decides}
 use Rattle.theory.specs.Grounded.{Entries}
-use Rattle.model_text.specs.declared.fault.FaultWord.{FaultWord}
 use Rattle.theory.specs.Limits.{nodes_most, arcs_most}
 use Rattle.model_text.specs.Model.{node_names, arc_names, place_of, node_fault, arc_fault, with_node, with_arc}
 use Rattle.model_text.specs.Names.{is_name}
 use Rattle.model_text.specs.ModelText.{first_fault, entry_tests, word_at, names_wanted, is_node_line, is_arc_line, line_names, line_items, line_listing, lacks_names, lacks_numbers, is_beyond, is_full, is_misshapen, has_fall, is_twice, is_unknown, is_loop, with_line}
-use Rattle.model_text.specs.LineParts.{number_tests, model_tests}
 use Rattle.model_text.proofs.FirstPlace.{found, none_there}
 use Rattle.model_text.proofs.ListTests.{neither, false-unless}
 
@@ -30,14 +28,6 @@ pub record PassesAlone (words : List (List ℕ)) : Type 0 where
   pub numbers : lacks_numbers words ≡ false
   pub limit : is_beyond words ≡ false
 
-alone-first : (words : List (List ℕ)) (others : List (Bool × FaultWord)) → first_fault (number_tests words ++ others) ≡ None
-    → PassesAlone words × (first_fault others ≡ None)
-alone-first words others none =
-    let one = passes (lacks_names words) _ _ none in
-    let two = passes (lacks_numbers words) _ _ one.1 in
-    let three = passes (is_beyond words) _ _ two.1 in
-    (record { names = one.0; numbers = two.0; limit = three.0 }, three.1)
-
 pub record PassesTogether (m : Entries) (words : List (List ℕ)) : Type 0 where
   pub room : is_full m words ≡ false
   pub shape : is_misshapen words ≡ false
@@ -45,16 +35,6 @@ pub record PassesTogether (m : Entries) (words : List (List ℕ)) : Type 0 where
   pub once : is_twice m words ≡ false
   pub known : is_unknown m words ≡ false
   pub apart : is_loop words ≡ false
-
-pub passes_together : (m : Entries) (words : List (List ℕ)) → first_fault (model_tests m words) ≡ None → PassesTogether m words
-passes_together m words none =
-    let one = passes (is_full m words) _ _ none in
-    let two = passes (is_misshapen words) _ _ one.1 in
-    let three = passes (has_fall (line_items words)) _ _ two.1 in
-    let four = passes (is_twice m words) _ _ three.1 in
-    let five = passes (is_unknown m words) _ _ four.1 in
-    let six = passes (is_loop words) _ _ five.1 in
-    record { room = one.0; shape = two.0; order = three.0; once = four.0; known = five.0; apart = six.0 }
 
 pub yes : (b : Bool) → not b ≡ false → b ≡ true
 yes true is = refl
@@ -68,9 +48,21 @@ pub record PassesAll (m : Entries) (words : List (List ℕ)) : Type 0 where
 
 pub passes_all : (m : Entries) (words : List (List ℕ)) → first_fault (entry_tests m words) ≡ None → PassesAll m words
 passes_all m words none =
-    let one = passes (not (is_node_line words || is_arc_line words)) _ _ none in
-    let two = alone-first words (model_tests m words) one.1 in
-    record { keyword = yes _ one.0; alone = two.0; together = passes_together m words two.1 }
+    let keyword = passes (not (is_node_line words || is_arc_line words)) _ _ none in
+    let names = passes (lacks_names words) _ _ keyword.1 in
+    let numbers = passes (lacks_numbers words) _ _ names.1 in
+    let limit = passes (is_beyond words) _ _ numbers.1 in
+    let room = passes (is_full m words) _ _ limit.1 in
+    let shape = passes (is_misshapen words) _ _ room.1 in
+    let order = passes (has_fall (line_items words)) _ _ shape.1 in
+    let once = passes (is_twice m words) _ _ order.1 in
+    let known = passes (is_unknown m words) _ _ once.1 in
+    let apart = passes (is_loop words) _ _ known.1 in
+    record {
+      keyword = yes _ keyword.0;
+      alone = record { names = names.0; numbers = numbers.0; limit = limit.0 };
+      together = record { room = room.0; shape = shape.0; order = order.0; once = once.0; known = known.0; apart = apart.0 };
+    }
 
 -- ---- names
 

@@ -13,7 +13,7 @@ use Rattle.theory.specs.CurveList.{IsCurveList, item}
 use Rattle.theory.specs.Ends.{IsFinite, IsBelow, is_finite, is_below, whole}
 use Rattle.theory.specs.Limits.{number_most, base_most, AreWithin, IsWithin, list_most}
 use Rattle.mono_curve.specs.CurveValue.{IsValidCurve}
-use Rattle.model_text.specs.ModelText.{is_over, are_over, is_misplaced, is_minus_inf, is_plus_inf, has_fall, is_beyond, is_misshapen, is_node_line, line_items, line_base, list_words, line_listing}
+use Rattle.model_text.specs.ModelText.{is_over, are_over, is_misplaced, is_minus_inf, is_plus_inf, has_fall, are_misshapen, part_is_beyond, is_beyond, is_misshapen, is_node_line, body, part_list, part_items, part_base, part_listing, line_items, line_listing}
 use Rattle.model_text.specs.NumberWords.{item_of}
 use Rattle.model_text.proofs.ListTests.{neither, none-at}
 
@@ -118,24 +118,41 @@ sound-filled (e ∷ items) is_node short small count placed single rising = subs
     odd-by : (n : ℕ) (node : Bool) → 0 < n → (n % 2 == 0 && not (node && n == 0)) ≡ false → n % 2 ≡ 1
     odd-by n node some count = grind (arith, nat_tests)
 
-items-count : (words : List (List ℕ)) → length (line_items words) ≡ length (list_words words)
-unfolding line_items
-items-count words = length-map (list_words words) (λ word. unwrap_or (item_of word) MinusInf)
+items-count : (part : List (List ℕ)) → length (part_items part) ≡ length (part_list part)
+unfolding part_items
+items-count part = length-map (part_list part) (λ word. unwrap_or (item_of word) MinusInf)
+
+pub sound-shaped : (items : List Ext) (node : Bool) → length items ≤ list_most → are_over items ≡ false → are_misshapen node items ≡ false → has_fall items ≡ false
+    → IsSound (filled items)
+sound-shaped items node short small shape order =
+    let one = neither ((length items % 2 == 0 && not (node && length items == 0)) || is_misplaced items) _ shape in
+    let two = neither _ (is_misplaced items) one.0 in
+    sound-filled items node (grind (arith, nat_tests)) small two.0 two.1 one.1 order
+
+-- what is within the limits
+pub record AreInLimits (part : List (List ℕ)) : Type 0 where
+  pub short : length (part_items part) ≤ list_most
+  pub items : are_over (part_items part) ≡ false
+  pub base : is_over (part_base part) ≡ false
+
+pub in-limits : (part : List (List ℕ)) → part_is_beyond part ≡ false → AreInLimits part
+unfolding part_is_beyond
+in-limits part limit =
+    let one = neither (nat_lt list_most (length (part_list part)) || are_over (part_items part)) (is_over (part_base part)) limit in
+    let two = neither (nat_lt list_most (length (part_list part))) (are_over (part_items part)) one.0 in
+    record { short = rw (items-count part) (grind (arith, nat_tests, two.0)); items = two.1; base = one.1 }
+
+pub listing-is : (part : List (List ℕ)) → part_listing part ≡ record { items = filled (part_items part); base = part_base part }
+unfolding part_listing
+listing-is part = refl
 
 module _ (words : List (List ℕ)) (limit : is_beyond words ≡ false) (shape : is_misshapen words ≡ false) (order : has_fall (line_items words) ≡ false) where
   pub sound-line : IsSound (line_listing words).items
-  unfolding is_beyond is_misshapen line_listing
+  unfolding is_beyond is_misshapen line_items line_listing part_listing
   sound-line =
-      let one = neither (nat_lt list_most (length (list_words words)) || are_over (line_items words)) (is_over (line_base words)) limit in
-      let two = neither (nat_lt list_most (length (list_words words))) (are_over (line_items words)) one.0 in
-      let three = neither ((length (line_items words) % 2 == 0 && not (is_node_line words && length (line_items words) == 0)) || is_misplaced (line_items words)) _ shape in
-      let four = neither _ (is_misplaced (line_items words)) three.0 in
-      sound-filled (line_items words) (is_node_line words) (rw (items-count words) two.0) two.1 four.0 four.1 three.1 order
+      let within = in-limits (body words) limit in
+      sound-shaped (part_items (body words)) (is_node_line words) within.short within.items shape order
 
   pub sound-base : IsWithin number_most (line_listing words).base
-  unfolding is_beyond line_listing
-  sound-base = within (line_base words) (neither (nat_lt list_most (length (list_words words)) || are_over (line_items words)) (is_over (line_base words)) limit).1
-
-pub listing-is : (words : List (List ℕ)) → line_listing words ≡ record { items = filled (line_items words); base = line_base words }
-unfolding line_listing
-listing-is words = refl
+  unfolding is_beyond line_listing part_listing
+  sound-base = within (part_base (body words)) (in-limits (body words) limit).base

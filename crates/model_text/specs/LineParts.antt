@@ -5,14 +5,15 @@ use Rattle.std.specs.Str.{bytes_eq}
 use Rattle.std.specs.Borrow.{Bor}
 use Rattle.model_text.specs.declared.line.Kind.{Kind}
 use Rattle.model_text.specs.declared.line.Kind.TheVariants.{Node, Arc}
+use Rattle.theory.specs.declared.ext.Ext.{Ext}
 use Rattle.theory.specs.Grounded.{Entries}
 use Rattle.model_text.specs.declared.fault.FaultWord.{FaultWord}
 use Rattle.model_text.specs.declared.fault.FaultWord.TheVariants.{Name, Number, Limit, Shape, Order, Twice, Unknown, Loop}
-use Rattle.model_text.specs.declared.fault.Refusal.{Refusal}
-use Rattle.model_text.specs.declared.fault.Refusal.TheVariants.{Fault, NoMemory}
+use Rattle.model_text.specs.declared.fault.PartFault.{PartFault}
+use Rattle.model_text.specs.declared.fault.PartFault.TheVariants.{Word, NoMemory}
 use Rattle.model_text.specs.Model.{node_names, place_of}
 use Rattle.model_text.specs.NumberWords.{item_of}
-use Rattle.model_text.specs.ModelText.{is_node_line, is_arc_line, line_names, list_words, base_words, word_at, first_fault, lacks_names, lacks_numbers, is_beyond, is_full, is_misshapen, line_items, has_fall, is_twice, is_unknown, is_loop}
+use Rattle.model_text.specs.ModelText.{is_node_line, is_arc_line, line_names, body, word_at, first_fault, lacks_names, part_lacks_numbers, lacks_numbers, part_is_beyond, is_beyond, is_full, are_misshapen, is_misshapen, line_items, has_fall, is_twice, is_unknown, is_loop}
 
 abbrev pub texts : List (Bor (List ℕ)) → List (List ℕ)
 texts words = map (λ word. word.now) words
@@ -21,12 +22,11 @@ abbrev pub is_node : Kind → Bool
 is_node Node = true
 is_node Arc = false
 
-pub record AreParts (words : List (List ℕ)) (kind : Kind) (named listed based : List (List ℕ)) : Type 0 where
+pub record AreParts (words : List (List ℕ)) (kind : Kind) (named listing : List (List ℕ)) : Type 0 where
   pub node : is_node_line words ≡ is_node kind
   pub arc : is_arc_line words ≡ not (is_node kind)
   pub names : named ≡ line_names words
-  pub list : listed ≡ list_words words
-  pub base : based ≡ base_words words
+  pub part : listing ≡ body words
 
 -- the positions of the nodes that an arc's line names
 pub record AreEnds (m : Entries) (words : List (List ℕ)) (from to : ℕ) : Type 0 where
@@ -38,20 +38,27 @@ keyword_kind word = if bytes_eq word (codes "node") then Some Node else (if byte
 
 -- ---- how far the reader is with a line
 
--- the test of the words of a list; the tests that need no model, and those that need it
+-- the test of the words of a list; those of a part's words, and of its items
 abbrev pub item_tests : List (List ℕ) → List (Bool × FaultWord)
 item_tests words = (list_any (λ word. is_none (item_of word)) words, Number) ∷ []
 
 abbrev pub number_tests : List (List ℕ) → List (Bool × FaultWord)
-number_tests words = (lacks_names words, Name) ∷ (lacks_numbers words, Number) ∷ (is_beyond words, Limit) ∷ []
+number_tests part = (part_lacks_numbers part, Number) ∷ (part_is_beyond part, Limit) ∷ []
 
-abbrev pub model_tests : Entries → List (List ℕ) → List (Bool × FaultWord)
-model_tests m words =
-    (is_full m words, Limit) ∷ (is_misshapen words, Shape) ∷ (has_fall (line_items words), Order)
-    ∷ (is_twice m words, Twice) ∷ (is_unknown m words, Unknown) ∷ (is_loop words, Loop) ∷ []
+abbrev pub shape_tests : Bool → List Ext → List (Bool × FaultWord)
+shape_tests node items = (are_misshapen node items, Shape) ∷ (has_fall items, Order) ∷ []
+
+-- those of a line up to its curve, and those of its names
+abbrev pub curve_tests : Entries → List (List ℕ) → List (Bool × FaultWord)
+curve_tests m words =
+    (lacks_names words, Name) ∷ (lacks_numbers words, Number) ∷ (is_beyond words, Limit) ∷ (is_full m words, Limit)
+    ∷ (is_misshapen words, Shape) ∷ (has_fall (line_items words), Order) ∷ []
+
+abbrev pub name_tests : Entries → List (List ℕ) → List (Bool × FaultWord)
+name_tests m words = (is_twice m words, Twice) ∷ (is_unknown m words, Unknown) ∷ (is_loop words, Loop) ∷ []
 
 -- the tests are passed, or the refusal tells the first that isn't, or memory was short
-abbrev pub Passes : {A : Type 0} → List (Bool × FaultWord) → Result A Refusal → Type 0
+abbrev pub Passes : {A : Type 0} → List (Bool × FaultWord) → Result A PartFault → Type 0
 Passes tests (Ok value) = first_fault tests ≡ None
-Passes tests (Err (Fault word)) = first_fault tests ≡ Some word
+Passes tests (Err (Word word)) = first_fault tests ≡ Some word
 Passes tests (Err NoMemory) = Unit {0}

@@ -33,34 +33,40 @@ names_wanted words = if is_node_line words then 1 else 3
 unfoldable pub line_names : List (List ℕ) → List (List ℕ)
 line_names words = take (names_wanted words) (drop 1 words)
 
--- what stands after the names is split at the first word `base`
+-- what stands after the names lists a curve
 abbrev pub body : List (List ℕ) → List (List ℕ)
 body words = drop (names_wanted words) (drop 1 words)
+
+-- ---- the part of a line that lists a curve: `LIST` or `LIST base B`, split at the first word `base`
 
 abbrev pub is_base_word : List ℕ → Bool
 is_base_word word = bytes_eq word (codes "base")
 
-abbrev pub list_count : List (List ℕ) → ℕ
-list_count words = position_or_len is_base_word (body words)
+abbrev pub part_list : List (List ℕ) → List (List ℕ)
+part_list part = take (position_or_len is_base_word part) part
 
-unfoldable pub list_words : List (List ℕ) → List (List ℕ)
-list_words words = take (list_count words) (body words)
+abbrev pub from_base : List (List ℕ) → List (List ℕ)
+from_base part = drop (position_or_len is_base_word part) part
 
-unfoldable pub base_words : List (List ℕ) → List (List ℕ)
-base_words words = drop (list_count words) (body words)
+unfoldable pub part_items : List (List ℕ) → List Ext
+part_items part = map (λ word. unwrap_or (item_of word) MinusInf) (part_list part)
+
+unfoldable pub part_base : List (List ℕ) → ℤ
+part_base part = unwrap_or (number_of (word_at (from_base part) 1)) (pos 0)
+
+-- an empty list of a node stands for the one point 0
+abbrev pub listing_of : List Ext → ℤ → Listing
+listing_of items base = record { items = if length items == 0 then At (pos 0) ∷ [] else items; base = base }
+
+-- the curve that the part lists
+unfoldable pub part_listing : List (List ℕ) → Listing
+part_listing part = listing_of (part_items part) (part_base part)
 
 unfoldable pub line_items : List (List ℕ) → List Ext
-line_items words = map (λ word. unwrap_or (item_of word) MinusInf) (list_words words)
+line_items words = part_items (body words)
 
-unfoldable pub line_base : List (List ℕ) → ℤ
-line_base words = unwrap_or (number_of (word_at (base_words words) 1)) (pos 0)
-
--- the curve of the line; an empty list of a node stands for the one point 0
 unfoldable pub line_listing : List (List ℕ) → Listing
-line_listing words = record {
-  items = if length (line_items words) == 0 then At (pos 0) ∷ [] else line_items words;
-  base = line_base words;
-}
+line_listing words = part_listing (body words)
 
 -- ---- the model that lines make
 
@@ -78,7 +84,7 @@ with_line m words =
 unfoldable pub entries_of : List (List ℕ) → Entries
 entries_of lines = fold (λ m line. with_line m (line_words line)) no_entries lines
 
--- ---- the tests of a line
+-- ---- the tests of what lists a curve
 
 abbrev pub is_minus_inf : Ext → Bool
 is_minus_inf MinusInf = true
@@ -96,43 +102,63 @@ is_over z = nat_lt number_most (unsigned_abs z)
 abbrev pub are_over : List Ext → Bool
 are_over items = list_any (λ e. is_over (whole e)) items
 
-unfoldable pub lacks_names : List (List ℕ) → Bool
-lacks_names words = nat_lt (length (line_names words)) (names_wanted words) || not (list_all is_name (line_names words))
-
 -- `base` stands there and isn't followed by exactly one word that is a number
 abbrev pub is_no_base : List (List ℕ) → Bool
 is_no_base [] = false
 is_no_base (base ∷ word ∷ []) = is_none (number_of word)
 is_no_base (base ∷ words) = true
 
+-- minus infinity stands elsewhere than in front, plus infinity elsewhere than at the end
+abbrev pub is_misplaced : List Ext → Bool
+is_misplaced items = list_any is_minus_inf (drop 1 items) || list_any is_plus_inf (take (length items - 1) items)
+
+-- an even count of items, but for an empty list of a node; an infinity that stands wrong; an infinite single point
+abbrev pub are_misshapen : Bool → List Ext → Bool
+are_misshapen node items =
+    (length items % 2 == 0 && not (node && length items == 0))
+    || is_misplaced items
+    || (length items == 1 && not (is_finite (item items 0)))
+
+-- an item isn't above the item two places before it
+unfoldable pub has_fall : List Ext → Bool
+has_fall items = list_any (λ pair. not (is_below pair.0 pair.1)) (zip items (drop 2 items))
+
 -- a list word is no item, or the base no number
-unfoldable pub lacks_numbers : List (List ℕ) → Bool
-lacks_numbers words = list_any (λ word. is_none (item_of word)) (list_words words) || is_no_base (base_words words)
+unfoldable pub part_lacks_numbers : List (List ℕ) → Bool
+part_lacks_numbers part = list_any (λ word. is_none (item_of word)) (part_list part) || is_no_base (from_base part)
 
 -- too long a list; a number beyond the limit
+unfoldable pub part_is_beyond : List (List ℕ) → Bool
+part_is_beyond part =
+    nat_lt list_most (length (part_list part)) || are_over (part_items part) || is_over (part_base part)
+
+-- of a part of a node's line, or of an arc's, in the order of the tests
+abbrev pub part_tests : Bool → List (List ℕ) → List (Bool × FaultWord)
+part_tests node part =
+    (part_lacks_numbers part, Number)
+    ∷ (part_is_beyond part, Limit)
+    ∷ (are_misshapen node (part_items part), Shape)
+    ∷ (has_fall (part_items part), Order)
+    ∷ []
+
+-- ---- the tests of a line
+
+unfoldable pub lacks_names : List (List ℕ) → Bool
+lacks_names words = nat_lt (length (line_names words)) (names_wanted words) || not (list_all is_name (line_names words))
+
+unfoldable pub lacks_numbers : List (List ℕ) → Bool
+lacks_numbers words = part_lacks_numbers (body words)
+
 unfoldable pub is_beyond : List (List ℕ) → Bool
-is_beyond words =
-    nat_lt list_most (length (list_words words)) || are_over (line_items words) || is_over (line_base words)
+is_beyond words = part_is_beyond (body words)
 
 -- the model has no room for what the line adds
 unfoldable pub is_full : Entries → List (List ℕ) → Bool
 is_full m words =
     (is_node_line words && nat_le nodes_most (length m.nodes)) || (is_arc_line words && nat_le arcs_most (length m.arcs))
 
--- minus infinity stands elsewhere than in front, plus infinity elsewhere than at the end
-abbrev pub is_misplaced : List Ext → Bool
-is_misplaced items = list_any is_minus_inf (drop 1 items) || list_any is_plus_inf (take (length items - 1) items)
-
--- an even count of items, but for an empty list of a node; an infinity that stands wrong; an infinite single point
 unfoldable pub is_misshapen : List (List ℕ) → Bool
-is_misshapen words =
-    (length (line_items words) % 2 == 0 && not (is_node_line words && length (line_items words) == 0))
-    || is_misplaced (line_items words)
-    || (length (line_items words) == 1 && not (is_finite (item (line_items words) 0)))
-
--- an item isn't above the item two places before it
-unfoldable pub has_fall : List Ext → Bool
-has_fall items = list_any (λ pair. not (is_below pair.0 pair.1)) (zip items (drop 2 items))
+is_misshapen words = are_misshapen (is_node_line words) (line_items words)
 
 unfoldable pub is_twice : Entries → List (List ℕ) → Bool
 is_twice m words =

@@ -1,79 +1,58 @@
 // A line after the header: its tests, and what it adds to the model.
-ghost use Rattle.std.specs.Prelude.{◌≡◌, is_none, IfSome, IfOk, OnOk};
-ghost use Rattle.model_text.specs.ModelText.{entry_tests, first_fault, with_line, line_items, line_base, is_full, is_misshapen, is_twice, is_unknown, is_loop};
-ghost use Rattle.model_text.specs.LineParts.{texts, number_tests, model_tests, AreEnds, Passes};
+ghost use Rattle.std.specs.Prelude.{◌≡◌, ◌≤◌, is_none, IfSome, IfOk, OnOk, length};
+ghost use Rattle.theory.specs.Limits.{list_most, number_most, IsWithin};
+ghost use Rattle.model_text.specs.ModelText.{entry_tests, first_fault, with_line, line_listing, is_full, is_twice, is_unknown, is_loop};
+ghost use Rattle.model_text.specs.LineParts.{texts, curve_tests, name_tests, AreEnds, Passes};
 
 use crate::addition::add;
 use crate::bytes::are_same;
-use crate::fault::{FaultWord, Refusal};
-use crate::items;
+use crate::fault::{FaultWord, PartFault};
 use crate::line::{Kind, Line};
 use crate::model::{ARCS_MOST, Model, NODES_MOST};
+use crate::part::numbers_of;
+use mono_curve::Curve;
 use std::alloc::Global;
-use theory::Ext;
 
 /// Adds what the line is to the model, where it passes the tests.
-pub(crate) fn read_entry(alloc: Global, model: &mut Model, words: &[&[u8]]) -> Result<(), Refusal>
+pub(crate) fn read_entry(alloc: Global, model: &mut Model, words: &[&[u8]]) -> Result<(), PartFault>
     ensures tests { Passes (entry_tests model.old.entries (texts words.now)) result }
     ensures added { OnOk result (model.new.entries ≡ with_line model.old.entries (texts words.now)) }
 {
     let Some(line) = Line::of(words) else {
-        return Err(Refusal::Fault(FaultWord::Keyword));
+        return Err(PartFault::Word(FaultWord::Keyword));
     };
-    let numbers = read_numbers(alloc, &line)?;
+    let curve = curve_of(alloc, model, &line)?;
     let ends = ends_of(model, &line);
-    if let Some(word) = model_fault(model, &line, &numbers.items, ends.is_none()) {
-        return Err(Refusal::Fault(word));
+    if let Some(word) = name_fault(model, &line, ends.is_none()) {
+        return Err(PartFault::Word(word));
     }
     let ends = ends.unwrap();
-    add(alloc, model, &line, numbers, ends).map_err(|_| Refusal::NoMemory)
+    add(alloc, model, &line, curve, ends).map_err(|_| PartFault::NoMemory)
 }
 
-/// The items and the base of a line.
-#[derive(Drop)]
-pub(crate) struct Numbers {
-    pub(crate) items: Vec<Ext>,
-    pub(crate) base: i64,
-}
-
-/// The numbers of the line, where it passes the tests that need no model.
-fn read_numbers(alloc: Global, line: &Line<'_>) -> Result<Numbers, Refusal>
-    ensures tests { Passes (number_tests (texts line.now.words.now)) result }
-    ensures items { IfOk result (λ numbers. numbers.items.items ≡ line_items (texts line.now.words.now)) }
-    ensures base { IfOk result (λ numbers. numbers.base ≡ line_base (texts line.now.words.now)) }
+/// The curve of the line, where it passes the tests up to those of its names.
+fn curve_of(alloc: Global, model: &Model, line: &Line<'_>) -> Result<Curve, PartFault>
+    ensures tests { Passes (curve_tests model.now.entries (texts line.now.words.now)) result }
+    ensures curve { IfOk result (λ curve. curve.listing ≡ line_listing (texts line.now.words.now)) }
+    ensures short { IfOk result (λ curve. length curve.listing.items ≤ list_most) }
+    ensures base { IfOk result (λ curve. IsWithin number_most curve.listing.base) }
 {
     if line.lacks_names() {
-        return Err(Refusal::Fault(FaultWord::Name));
+        return Err(PartFault::Word(FaultWord::Name));
     }
-    let items = line.items(alloc)?;
-    let Some(base) = line.base() else {
-        return Err(Refusal::Fault(FaultWord::Number));
-    };
-    if line.is_long() {
-        return Err(Refusal::Fault(FaultWord::Limit));
+    let numbers = numbers_of(alloc, line.part)?;
+    if is_full(model, line) {
+        return Err(PartFault::Word(FaultWord::Limit));
     }
-    if items::are_over(&items) {
-        return Err(Refusal::Fault(FaultWord::Limit));
-    }
-    if items::is_over(base) {
-        return Err(Refusal::Fault(FaultWord::Limit));
-    }
-    Ok(Numbers { items, base })
+    numbers.into_curve(line.kind.is_node())
 }
 
-/// The first test of those that need the model which the line fails, where it is known whether a node is unknown.
-fn model_fault(model: &Model, line: &Line<'_>, items: &[Ext], unknown: bool) -> Option<FaultWord>
-    requires items { items.now ≡ line_items (texts line.now.words.now) }
-    requires unknown { unknown ≡ is_unknown model.now.entries (texts line.now.words.now) }
-    ensures { result ≡ first_fault (model_tests model.now.entries (texts line.now.words.now)) }
+/// The first test of its names that the line fails, where it is known whether a node is unknown.
+fn name_fault(model: &Model, line: &Line<'_>, unknown: bool) -> Option<FaultWord>
+    requires { unknown ≡ is_unknown model.now.entries (texts line.now.words.now) }
+    ensures { result ≡ first_fault (name_tests model.now.entries (texts line.now.words.now)) }
 {
-    if is_full(model, line) {
-        Some(FaultWord::Limit)
-    } else if is_misshapen(line, items) {
-        Some(FaultWord::Shape)
-    } else if items::has_fall(items) {
-        Some(FaultWord::Order)
-    } else if is_twice(model, line) {
+    if is_twice(model, line) {
         Some(FaultWord::Twice)
     } else if unknown {
         Some(FaultWord::Unknown)
@@ -91,15 +70,6 @@ fn is_full(model: &Model, line: &Line<'_>) -> bool
         Kind::Node => model.nodes() as usize >= NODES_MOST,
         Kind::Arc => model.arcs() as usize >= ARCS_MOST,
     }
-}
-
-fn is_misshapen(line: &Line<'_>, items: &[Ext]) -> bool
-    requires { items.now ≡ line_items (texts line.now.words.now) }
-    ensures { result ≡ is_misshapen (texts line.now.words.now) }
-{
-    line.has_wrong_count(items.len())
-        || items::is_misplaced(items)
-        || items::is_infinite_point(items)
 }
 
 fn is_twice(model: &Model, line: &Line<'_>) -> bool

@@ -16,9 +16,9 @@ pub enum FaultWord {
     Loop,
 }
 
-/// Why a line was not read.
-#[derive(Clone, Copy, PartialEq, Eq)]
-pub(crate) enum Refusal {
-    Fault(FaultWord),
+/// Why a line, or a part of one, was not read.
+#[derive(Clone, Copy, PartialEq, Eq, Debug)]
+pub enum PartFault {
+    Word(FaultWord),
     NoMemory,
 }

@@ -10,6 +10,9 @@ mod line;
 mod model;
 mod name;
 mod numbers;
+mod part;
+#[cfg(test)]
+mod part_tests;
 mod print;
 mod read;
 #[cfg(test)]
@@ -20,10 +23,11 @@ pub mod text_laws;
 mod words;
 
 pub use bytes::{are_same, cut};
-pub use fault::FaultWord;
+pub use fault::{FaultWord, PartFault};
 pub use model::{ARCS_MOST, AddFault, LIST_MOST, Model, NODES_MOST};
 pub use name::{NAME_MOST, Name, NameFault, is_name};
 pub use numbers::number;
+pub use part::{curve_of_words, read_curve};
 pub use print::{append_end, append_line, append_list, append_number, append_word, print_model};
 pub use read::{ModelError, read_model};
 pub use words::words_of;

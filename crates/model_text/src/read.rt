@@ -8,7 +8,7 @@ ghost use Rattle.model_text.specs.Reading.{IsRightError, error_at};
 
 use crate::bytes::{are_same, cut};
 use crate::entry::read_entry;
-use crate::fault::{FaultWord, Refusal};
+use crate::fault::{FaultWord, PartFault};
 use crate::model::Model;
 use crate::words::words_of;
 use std::alloc::Global;
@@ -43,7 +43,7 @@ pub fn read_model(alloc: Global, text: &[u8]) -> Result<Model, ModelError>
         count += 1;
         match reader.read_line(alloc, line) {
             Ok(()) => rest = after,
-            Err(refusal) => return Err(refusal.at(count)),
+            Err(fault) => return Err(fault.at(count)),
         }
     }
     let Reader { model, begun } = reader;
@@ -57,13 +57,13 @@ pub fn read_model(alloc: Global, text: &[u8]) -> Result<Model, ModelError>
     }
 }
 
-impl Refusal {
+impl PartFault {
     fn at(self, line: u32) -> ModelError
         ensures { result ≡ error_at line self }
     {
         match self {
-            Refusal::Fault(word) => ModelError::Fault { line, word },
-            Refusal::NoMemory => ModelError::NoMemory,
+            PartFault::Word(word) => ModelError::Fault { line, word },
+            PartFault::NoMemory => ModelError::NoMemory,
         }
     }
 }
@@ -77,16 +77,16 @@ struct Reader {
 }
 
 impl Reader {
-    fn read_line(&mut self, alloc: Global, line: &[u8]) -> Result<(), Refusal>
+    fn read_line(&mut self, alloc: Global, line: &[u8]) -> Result<(), PartFault>
         ensures tests { Passes (line_tests self.old.begun self.old.model.entries line.now) result }
         ensures begun { OnOk result (self.new.begun ≡ (self.old.begun || has_words line.now)) }
         ensures model { OnOk result (self.new.model.entries ≡ with_line self.old.model.entries (line_words line.now)) }
     {
         if !is_text(line) {
-            return Err(Refusal::Fault(FaultWord::Utf8));
+            return Err(PartFault::Word(FaultWord::Utf8));
         }
         let Ok(words) = words_of(alloc, line) else {
-            return Err(Refusal::NoMemory);
+            return Err(PartFault::NoMemory);
         };
         if words.is_empty() {
             return Ok(());
@@ -95,7 +95,7 @@ impl Reader {
             return read_entry(alloc, &mut self.model, &words);
         }
         if !is_header(&words) {
-            return Err(Refusal::Fault(FaultWord::Header));
+            return Err(PartFault::Word(FaultWord::Header));
         }
         self.begun = true;
         Ok(())

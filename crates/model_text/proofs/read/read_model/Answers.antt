@@ -53,7 +53,7 @@ returns-in-Err-clause-error c =
     let fault : fault_at (text_lines text) k ≡ first_fault (line_tests c.loop-rest.reader.begun c.loop-rest.reader.model.entries line) =
     fault-here (text_lines text) k line (text_lines c.cut.result.1.now) left
     ∙ rw (c.loop-rest.invariant.begun, c.loop-rest.invariant.model) refl in
-    let wrong = right_error text k c.in-Err.refusal (line_tests c.loop-rest.reader.begun c.loop-rest.reader.model.entries line)
+    let wrong = right_error text k c.in-Err.fault (line_tests c.loop-rest.reader.begun c.loop-rest.reader.model.entries line)
     (here (text_lines text) k line (text_lines c.cut.result.1.now) left) c.loop-rest.invariant.no_fault fault c.in-Err.ensures.tests in
     rw c.at.ensures wrong
 

@@ -13,8 +13,7 @@ invariant_of-result c =
     let words = c.args.words.now in
     let rest = take (length words - 1) (drop 1 words) in
     record {
-      parts = parts words _ c.in_ok-kind.kind c.names_wanted.result c.before_base.result rest c.split_at.result.0.now c.split_at.result.1.now
-          c.split_at-2.result.0.now c.split_at-2.result.1.now (omega arith) (sym c.kind_of.ensures ∙ c.in_ok-kind.was) refl c.names_wanted.ensures
-          (c.split_at.ensures.front ∙ ap (λ n. take n rest) c.min.ensures) (c.split_at.ensures.back ∙ ap (λ n. drop n rest) c.min.ensures)
-          c.before_base.ensures.count c.split_at-2.ensures.front c.split_at-2.ensures.back;
+      parts = parts words _ c.in_ok-kind.kind c.names_wanted.result rest c.split_at.result.0.now c.split_at.result.1.now
+          (omega arith) (sym c.kind_of.ensures ∙ c.in_ok-kind.was) refl c.names_wanted.ensures
+          (c.split_at.ensures.front ∙ ap (λ n. take n rest) c.min.ensures) (c.split_at.ensures.back ∙ ap (λ n. drop n rest) c.min.ensures);
     }

@@ -5,7 +5,7 @@ use Rattle.std.specs.List.{list_any}
 use Rattle.theory.specs.declared.ext.Ext.TheVariants.{MinusInf}
 use Rattle.model_text.specs.NumberWords.{item_of}
 use Rattle.model_text.specs.NearNumbers.{near_item}
-use Rattle.model_text.proofs.line.items_of.Given as goal
+use Rattle.model_text.proofs.part.items_of.Given as goal
 
 abbrev pub invariant-loop-word : goal.invariant-loop-word
 invariant-loop-word l = record {

@@ -4,7 +4,7 @@ use Rattle.std.specs.List.{list_any}
 use Rattle.std.proofs.lemmas.List.{drop_all}
 use Rattle.model_text.proofs.FirstPlace.{none_left}
 use Rattle.model_text.proofs.LineLemmas.{lacks_item, near_of, test-passed, item-added, test-failed, list-fails, list-passes}
-use Rattle.model_text.proofs.line.items_of.Goals as goal
+use Rattle.model_text.proofs.part.items_of.Goals as goal
 
 pub returns-in_default-item-clause-tests : goal.returns-in_default-item-clause-tests
 returns-in_default-item-clause-tests c =

@@ -4,7 +4,7 @@ use Rattle.std.proofs.lemmas.Iterator.{YieldsList-from_slice}
 use Rattle.std.proofs.lemmas.Iterator.Search.{position_from_yields_List}
 use Rattle.model_text.specs.ModelText.{is_base_word}
 use Rattle.model_text.proofs.FirstPlace.{first_place, or_length, prefix_len-map}
-use Rattle.model_text.proofs.line.before_base.Goals as goal
+use Rattle.model_text.proofs.part.before_base.Goals as goal
 
 pub returns-clause-count : goal.returns-clause-count
 returns-clause-count c =
