@@ -1,15 +1,16 @@
 -- A grounded network grows by its arcs in order: ground arc k is number k, arc k of the model is number N + k, with N the
 -- count of model nodes. What is built after all of them is the grounded network, and that is a network.
-use Rattle.std.proofs.Common.{◌≡◌, ℕ, ◌+◌, ◌<◌, List, [], ◌∷◌, ◌++◌, length, take, get_or, slice_index_or, refl, sym, ap, ◌∙◌, add-one, arith}
+use Rattle.std.proofs.Common.{◌≡◌, ℕ, ◌+◌, ◌<◌, List, [], ◌∷◌, ◌++◌, length, take, get_or, slice_index_or, refl, sym, ap, ◌∙◌, subst, pos, add-one, arith}
 use Rattle.std.proofs.lemmas.List.{take_all}
+use Rattle.std.proofs.lemmas.List.Elements.{All-get_or}
 use Rattle.std.proofs.Math.Seq.{take-suc}
 use Rattle.theory.specs.declared.network.Arc.{Arc}
 use Rattle.theory.specs.CurveList.{Listing}
 use Rattle.theory.specs.Network.{arc_at, curve}
 use Rattle.theory.specs.Grounded.{Entries, NodeEntry, ArcEntry, grounded, joining}
-use Rattle.theory.proofs.GroundedLaw.{length-grounded_arcs, length-grounded_curves, arc_at-ground, arc_at-model, curve-ground, curve-model, tail-ground, head-ground, grounded_is_network}
+use Rattle.theory.proofs.GroundedLaw.{length-grounded_arcs, length-grounded_curves, arc_at-ground, arc_at-model, curve-ground, curve-model, by_arc, tail-ground, head-ground, grounded_is_network}
 use Rattle.net_incidence.specs.Graph.{Graph, network}
-use Rattle.model_text.specs.Model.{IsWellFormed}
+use Rattle.model_text.specs.Model.{IsWellFormed, IsWithinLimits}
 use Rattle.ground_net.specs.Ground.{IsGrounded}
 use Rattle.ground_net.specs.Built.{IsBuilt}
 
@@ -63,6 +64,8 @@ built-all m g listed built =
 pub grounded-is : (m : Entries) → IsWellFormed m → IsGrounded (grounded m)
 grounded-is m formed =
     let arcs = length-grounded_arcs m in
+    let no_node : NodeEntry = record { name = []; supply = record { items = []; base = pos 0 } } in
+    let no_arc : ArcEntry = record { name = []; from = 0; to = 0; curve = record { items = []; base = pos 0 } } in
     record {
       is_network = grounded_is_network m formed.model;
       tails = λ i l. tail-ground m i (omega arith);
@@ -71,6 +74,9 @@ grounded-is m formed =
       ground_there = omega arith;
       few_nodes = omega (arith, formed.few_nodes);
       few_arcs = omega (arith, formed.few_nodes, formed.few_arcs);
+      curves_within = by_arc m (λ j. IsWithinLimits (curve (grounded m) j))
+          (λ i l. subst IsWithinLimits (sym (curve-ground m i no_node l)) (All-get_or (λ node. IsWithinLimits node.supply) m.nodes i no_node l formed.supplies))
+          (λ k l. subst IsWithinLimits (sym (curve-model m k no_arc l)) (All-get_or (λ arc. IsWithinLimits arc.curve) m.arcs k no_arc l formed.curves));
     }
 
 pub built-is_grounded : (m : Entries) (g : Graph) (listed : List Listing) → IsWellFormed m

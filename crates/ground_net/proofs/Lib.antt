@@ -1,3 +1,4 @@
 pub mod Building
 pub mod Costs
 pub mod Items
+pub mod Replacing

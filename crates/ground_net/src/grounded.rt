@@ -5,6 +5,7 @@ ghost use Rattle.ground_net.specs.Ground.{IsGrounded, listings};
 use mono_curve::Curve;
 use net_incidence::{ArcId, Net};
 use std::marker::Model;
+use std::mem;
 
 /// The network of a model with the ground as node 0. Arc `i` runs from the ground to model node `i`, which is node
 /// `i + 1`; the arcs of the model follow.
@@ -25,8 +26,10 @@ impl Model for Grounded {
 }
 
 impl Grounded {
-    ghost use Rattle.std.specs.Prelude.{◌≡◌, ◌+◌, ◌<◌, length};
+    ghost use Rattle.std.specs.Prelude.{◌≡◌, ◌+◌, ◌<◌, ◌≤◌, length};
+    ghost use Rattle.theory.specs.Limits.{IsWithin, number_most, list_most};
     ghost use Rattle.theory.specs.Network.{curve, tail, head};
+    ghost use Rattle.ground_net.specs.Ground.{replaced};
 
     pub fn net(&self) -> &Net
         ensures { network result.now self.now.network.curves ≡ self.now.network }
@@ -58,6 +61,17 @@ impl Grounded {
     {
         let _net = &self.net;
         ArcId(node)
+    }
+
+    /// Puts another curve in the place of the arc's, and gives back the arc's.
+    pub fn replace_curve(&mut self, arc: ArcId, other: Curve) -> Curve
+        requires there { arc.0 < length self.old.network.arcs }
+        requires short { length other.listing.items ≤ list_most }
+        requires base { IsWithin number_most other.listing.base }
+        ensures network { self.new.network ≡ replaced self.old.network arc.0 other.listing }
+        ensures before { result.listing ≡ curve self.old.network arc.0 }
+    {
+        mem::replace(&mut self.curves[arc.0 as usize], other)
     }
 
     /// A grounded network of its parts.

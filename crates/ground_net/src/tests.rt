@@ -73,3 +73,15 @@ fn grounds_a_model(rt: HostRuntime) -> Result<(), Fail> {
     }
     Ok(())
 }
+
+#[test]
+fn replaces_a_curve(rt: HostRuntime) -> Result<(), Fail> {
+    let mut g = ground(rt.alloc(), &ordinary(&rt)?)?;
+    let narrow = curve(&rt, &[Ext::At(0), Ext::At(1), Ext::At(3)])?;
+    assert!(rt; g.net().arcs() == 3);
+    let before = g.replace_curve(ArcId(2), narrow);
+    assert_eq!(rt; domain_of(&before), (Ext::At(0), Ext::At(10)));
+    assert_eq!(rt; domain_of(g.curve(ArcId(2))), (Ext::At(0), Ext::At(3)));
+    assert_eq!(rt; domain_of(g.curve(ArcId(1))), (Ext::At(-5), Ext::At(-5)));
+    Ok(())
+}
