@@ -6,9 +6,9 @@ use Rattle.path_cut.proofs.flow_found.flow_between.Goals as goal
 pub carried-requires-clause-feasible : goal.carried-requires-clause-feasible
 carried-requires-clause-feasible g c =
     let is = ap (network c.net-graph.result.now) c.curves-curves.ensures ∙ c.net-graph.ensures in
-    flow-of c.net-graph.result.now c.curves-curves.result.now c.in_ok-net.net is c.feasible_flow.new.work.flows (c.feasible_flow.ensures.flow c.in-Flow.is)
+    flow-of c.net-graph.result.now c.curves-curves.result.now c.in_ok-net.net is c.drawn_or_found.new.work.flows (c.drawn_or_found.ensures.flow c.in-Flow.is)
 
 pub refused-requires-clause-negative : goal.refused-requires-clause-negative
 refused-requires-clause-negative g c =
     let is = ap (network c.net-graph.result.now) c.curves-curves.ensures ∙ c.net-graph.ensures in
-    rw c.marks.ensures (cut-of c.net-graph.result.now c.curves-curves.result.now c.in_ok-net.net is c.feasible_flow.new.work.reached (c.feasible_flow.ensures.cut c.in-Cut.is))
+    rw c.marks.ensures (cut-of c.net-graph.result.now c.curves-curves.result.now c.in_ok-net.net is c.drawn_or_found.new.work.reached (c.drawn_or_found.ensures.cut c.in-Cut.is))
