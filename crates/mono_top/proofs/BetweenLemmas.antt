@@ -52,7 +52,7 @@ places_differ names one other i k first second apart same =
 pub place_there : (m : Entries) (name : List ℕ) (i : ℕ) → place_of (node_names m) name ≡ Some i → i + 1 < length m.nodes + 1
 place_there m name i is =
     let at = found_at (bytes_eq name) (node_names m) i (sym is) in
-    omega (arith, at, length-map m.nodes (λ node. node.name))
+    omega (arith, at.1, length-map m.nodes (λ node. node.name))
 
 -- ---- what the texts need
 

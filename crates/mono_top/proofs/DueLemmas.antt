@@ -16,7 +16,7 @@ use Rattle.path_cut.specs.declared.flow_found.FlowFound.{FlowFound}
 use Rattle.path_cut.specs.declared.flow_found.FlowFound.TheVariants.{Greatest as GreatestFlow, Unbounded as NoTopFlow, Refused as FlowRefused}
 use Rattle.path_cut.specs.declared.tension_found.TensionFound.{TensionFound}
 use Rattle.path_cut.specs.declared.tension_found.TensionFound.TheVariants.{Greatest as GreatestTension, Unbounded as NoTopTension, Refused as TensionRefused}
-use Rattle.mono_top.specs.Between.{ FindsFlow, FindsTension, status_of_flow, status_of_tension}
+use Rattle.mono_top.specs.Between.{FindsFlow, FindsTension, status_of_flow, status_of_tension}
 use Rattle.mono_top.specs.Checks.{ChecksText}
 use Rattle.mono_top.specs.Due.{IsDue, IsDueOfFiles}
 use Rattle.mono_top.specs.OfModel.{OfModel}

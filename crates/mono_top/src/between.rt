@@ -3,6 +3,8 @@ ghost use Rattle.std.specs.Prelude.{◌≡◌, ◌≢◌, ◌+◌, ◌<◌, ◌�
 ghost use Rattle.theory.specs.Grounded.{grounded};
 ghost use Rattle.mono_top.specs.Between.{Between, FindsFlow, FindsTension, status_of_flow, status_of_tension};
 ghost use Rattle.mono_top.specs.CountsReadings.{ReadsCurves};
+ghost use Rattle.mono_top.specs.Fetch.{text_of};
+ghost use Rattle.mono_top.specs.Lines.{unknown_node_line};
 ghost use Rattle.mono_top.specs.NetBound.{net_bound};
 ghost use Rattle.mono_top.specs.Replies.{RepliesWith};
 ghost use Rattle.mono_top.specs.Request.{greatest_flow, greatest_tension};
@@ -31,10 +33,20 @@ pub(crate) fn max_flow<L: Ledger>(
     ensures answers { RepliesWith (Between FindsFlow from.now to.now model.now.entries) result }
     ensures readings { ReadsCurves (greatest_flow from.now to.now) model.now.entries steps.old steps.new }
 {
-    match (model.node_of(from.as_bytes()), model.node_of(to.as_bytes())) {
-        (Some(i), Some(k)) => Ok(flow_reply(alloc, model, (i, k), steps)?),
-        _ => Ok(Reply::refusal(Status::UnknownNode, lines::unknown_node())),
-    }
+    let Some(i) = model.node_of(from.as_bytes()) else {
+        return Ok(unknown_node());
+    };
+    let Some(k) = model.node_of(to.as_bytes()) else {
+        return Ok(unknown_node());
+    };
+    flow_reply(alloc, model, (i, k), steps)
+}
+
+fn unknown_node() -> Reply
+    ensures status { result.status ≡ Status.UnknownNode }
+    ensures text { text_of result.text ≡ unknown_node_line }
+{
+    Reply::refusal(Status::UnknownNode, lines::unknown_node())
 }
 
 /// The greatest flow between two nodes, by their positions.
@@ -82,10 +94,13 @@ pub(crate) fn max_tension<L: Ledger>(
     ensures answers { RepliesWith (Between FindsTension from.now to.now model.now.entries) result }
     ensures readings { ReadsCurves (greatest_tension from.now to.now) model.now.entries steps.old steps.new }
 {
-    match (model.node_of(from.as_bytes()), model.node_of(to.as_bytes())) {
-        (Some(i), Some(k)) => Ok(tension_reply(alloc, model, (i, k), steps)?),
-        _ => Ok(Reply::refusal(Status::UnknownNode, lines::unknown_node())),
-    }
+    let Some(i) = model.node_of(from.as_bytes()) else {
+        return Ok(unknown_node());
+    };
+    let Some(k) = model.node_of(to.as_bytes()) else {
+        return Ok(unknown_node());
+    };
+    tension_reply(alloc, model, (i, k), steps)
 }
 
 /// The greatest tension between two nodes, by their positions.

@@ -98,14 +98,34 @@ fn asks(
 #[test]
 fn names_of_nodes(rt: HostRuntime) -> Result<(), Fail> {
     let rows = [
-        asks("no such goal", &["maxflow", "a", "s", "z"], 17, "unknown node\n"),
-        asks("no such start", &["maxtension", "a", "z", "s"], 17, "unknown node\n"),
+        asks(
+            "no such goal",
+            &["maxflow", "a", "s", "z"],
+            17,
+            "unknown node\n",
+        ),
+        asks(
+            "no such start",
+            &["maxtension", "a", "z", "s"],
+            17,
+            "unknown node\n",
+        ),
         asks("neither", &["maxflow", "a", "y", "z"], 17, "unknown node\n"),
         asks("one node", &["maxflow", "a", "s", "s"], 4, USAGE),
         asks("one unknown node", &["maxtension", "a", "z", "z"], 4, USAGE),
         asks("no goal", &["maxflow", "a", "s"], 4, USAGE),
-        asks("a word too many", &["maxtension", "a", "s", "t", "u"], 4, USAGE),
-        asks("a file that is not held", &["maxflow", "b", "s", "z"], 6, "missing file 1\n"),
+        asks(
+            "a word too many",
+            &["maxtension", "a", "s", "t", "u"],
+            4,
+            USAGE,
+        ),
+        asks(
+            "a file that is not held",
+            &["maxflow", "b", "s", "z"],
+            6,
+            "missing file 1\n",
+        ),
         plain(
             "the model text is tested first",
             &["maxflow", "a", "s", "z"],

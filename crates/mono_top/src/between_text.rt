@@ -53,7 +53,11 @@ pub(crate) fn print_tension(
 {
     let mut out = Vec::new(alloc);
     match found {
-        TensionFound::Greatest { tension, potentials, walk } => {
+        TensionFound::Greatest {
+            tension,
+            potentials,
+            walk,
+        } => {
             append_head(&mut out, b"maxtension", i128::from(*tension))?;
             append_tensions(&mut out, model, potentials.as_slice())?;
             append_walk(&mut out, model, walk.as_slice())?;

@@ -34,7 +34,12 @@ pub(crate) fn command_of(words: &[String]) -> Option<Command<'_>>
     match words {
         [command, word] => with_one(command.as_str(), word.as_str()),
         [command, model, other] => with_two(command.as_str(), model.as_str(), other.as_str()),
-        [command, model, from, to] => with_three(command.as_str(), model.as_str(), from.as_str(), to.as_str()),
+        [command, model, from, to] => with_three(
+            command.as_str(),
+            model.as_str(),
+            from.as_str(),
+            to.as_str(),
+        ),
         _ => None,
     }
 }
@@ -90,12 +95,7 @@ fn with_two<'a>(command: &str, model: &'a str, other: &'a str) -> Option<Command
 }
 
 /// The commands with three words, the last two of which differ.
-fn with_three<'a>(
-    command: &str,
-    model: &'a str,
-    from: &'a str,
-    to: &'a str,
-) -> Option<Command<'a>>
+fn with_three<'a>(command: &str, model: &'a str, from: &'a str, to: &'a str) -> Option<Command<'a>>
     ensures asked { option_map request_by result ≡ request_of (command.now ∷ model.now ∷ from.now ∷ to.now ∷ []) }
     ensures apart { IfSome result (λ command. IsApartRequest (request_by command)) }
 {
