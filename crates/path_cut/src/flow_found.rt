@@ -62,14 +62,39 @@ pub fn flow_between<L: Ledger>(
     ensures no_fewer { steps.old ≤ steps.new }
 {
     let net = with_return(alloc, g.net(), g.curves(), from, to)?;
+    found_over(alloc, &net, steps)
+}
+
+/// The greatest flow over the last arc.
+fn found_over<L: Ledger>(
+    alloc: Global,
+    net: &Returned,
+    steps: &mut Steps<L>,
+) -> Result<FlowFound, AllocError>
+    requires returns { HasReturn net.now }
+    requires some_node { 1 ≤ net.now.nodes }
+    requires few_nodes { net.now.nodes ≤ grounded_nodes_most }
+    requires few_arcs { length net.now.arcs ≤ passable_arcs_most }
+    requires one_curve_each { length net.now.curves ≡ length net.now.arcs }
+    ensures found { IfOk result (IsFlowFound net.now) }
+    ensures within { IfOk result (FlowsWithin (4 * flow_most)) }
+    ensures no_fewer { steps.old ≤ steps.new }
+{
     let graph = net.net();
     let curves = net.curves();
-    let mut work = Work::take(alloc, graph.nodes(), graph.arcs())?;
     let gains = gains_of(alloc, curves)?;
     let mut sketch = Sketch::take(alloc, graph.nodes(), graph.arcs())?;
-    match drawn_or_found(graph, curves, gains.as_slice(), &mut sketch, &mut work, steps) {
-        FlowAns::Flow => carried(alloc, &net, &mut work, steps),
-        FlowAns::Cut => refused(alloc, &net, work.marks()),
+    let mut work = Work::take(alloc, graph.nodes(), graph.arcs())?;
+    match drawn_or_found(
+        graph,
+        curves,
+        gains.as_slice(),
+        &mut sketch,
+        &mut work,
+        steps,
+    ) {
+        FlowAns::Flow => carried(alloc, net, &mut work, steps),
+        FlowAns::Cut => refused(alloc, net, work.marks()),
     }
 }
 

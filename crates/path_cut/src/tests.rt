@@ -21,7 +21,12 @@ fn curve(rt: &(impl Abort + AllocGlobal), items: &[Ext]) -> Result<Curve, Fail>
     Ok(Curve::of_list(rt.alloc(), items, 0)?)
 }
 
-fn add_node(rt: &(impl Abort + AllocGlobal), m: &mut Model, name: &[u8], supply: i64) -> Result<(), Fail> {
+fn add_node(
+    rt: &(impl Abort + AllocGlobal),
+    m: &mut Model,
+    name: &[u8],
+    supply: i64,
+) -> Result<(), Fail> {
     let name = Name::of(rt.alloc(), name)?;
     m.add_node(name, curve(rt, &[At(supply)])?)?;
     Ok(())
@@ -79,9 +84,7 @@ fn finds_a_greatest_tension(rt: HostRuntime) -> Result<(), Fail> {
     let g = joined(&rt, &[At(0), At(2), PlusInf])?;
     let (flow, tension) = found::<Brand>(&rt, &g, Blank::new(1))?;
     match tension {
-        TensionFound::Greatest {
-            tension, walk, ..
-        } => {
+        TensionFound::Greatest { tension, walk, .. } => {
             assert_eq!(rt; tension, 2);
             assert_eq!(rt; walk.as_slice().len(), 1);
         }
