@@ -8,13 +8,14 @@ import argparse
 import os
 import sys
 
+import flows
 import growth
 import machine
 import shops
 from classes import CLASSES
 from draws import Draws
 from processes import run
-from programs import OUT, PEERS, PROGRAM, build_peers, build_program, is_answer, peer_words, said_by_peer, said_by_program, said_of_table
+from programs import OUT, PEERS, PROGRAM, build_peers, build_program, is_answer, peer_words, said_by_peer, said_by_program, said_of_flow, said_of_table
 from table import geometric_mean, markdown, milliseconds, ratio
 
 SPEED = os.path.join(os.path.dirname(os.path.dirname(os.path.abspath(__file__))), "docs", "SPEED.md")
@@ -115,6 +116,32 @@ def class_table(classes, peers, rounds, limit):
     return text, faults
 
 
+def flow_table(models, rounds, limit):
+    """`maxflow` beside LEMON's Preflow, from the first node to the last."""
+    rows, faults = [], []
+    for name, seed, make in models:
+        model, path = made(name, seed, make)
+        words = {"maxflow": [PROGRAM, "maxflow", path, "n1", f"n{model.nodes}"], "preflow": peer_words("preflow", [path])}
+        best, said = best_of(words, {"maxflow": said_of_flow, "preflow": said_by_peer}, rounds, limit)
+        if len(set(said.values())) > 1 or not is_answer(said["maxflow"]):
+            faults.append(f"{name}: " + "; ".join(f"{program} {heard}" for program, heard in said.items()))
+        rows.append([name, f"{model.nodes:,}", f"{model.arcs:,}", said["maxflow"]] + [milliseconds(best[program]) for program in words]
+                    + [ratio(best["maxflow"], best["preflow"])])
+        print("  ".join(rows[-1]), flush=True)
+    return markdown(["network", "nodes", "arcs", "answer", "maxflow", PEERS["preflow"].title, "to Preflow"], rows), faults
+
+
+def best_of(words, hear, rounds, limit):
+    """The best time of each program, and what it said last."""
+    best, said = {}, {}
+    for _ in range(rounds):
+        for program in words:
+            done = run(words[program], limit)
+            said[program] = hear[program](done)
+            best[program] = min(best.get(program, done.seconds), done.seconds)
+    return best, said
+
+
 def table_table(tables, rounds, limit):
     """`transport` on tables, beside `solve` and LEMON on the models that they stand for."""
     rows, faults = [], []
@@ -126,17 +153,16 @@ def table_table(tables, rounds, limit):
                 file.write(text)
         words = {"transport": [PROGRAM, "transport", path + ".table"], "solve": [PROGRAM, "solve", path + ".net"], "simplex": peer_words("simplex", [path + ".net"])}
         hear = {"transport": said_of_table, "solve": said_by_program, "simplex": said_by_peer}
-        best, said = {}, {}
-        for _ in range(rounds):
-            for program in words:
-                done = run(words[program], limit)
-                said[program] = hear[program](done)
-                best[program] = min(best.get(program, done.seconds), done.seconds)
+        best, said = best_of(words, hear, rounds, limit)
         if len(set(said.values())) > 1 or not is_answer(said["transport"]):
             faults.append(f"{name}: " + "; ".join(f"{program} {heard}" for program, heard in said.items()))
         rows.append([name, said["transport"].split(" ")[0]] + [milliseconds(best[program]) for program in words] + [ratio(best["transport"], best["simplex"])])
         print("  ".join(rows[-1]), flush=True)
     return markdown(["table", "answer", "transport", "solve", PEERS["simplex"].title, "to NetworkSimplex"], rows), faults
+
+
+def is_asked(name, only):
+    return not only or any(word in name for word in only)
 
 
 def put_into_document(text):
@@ -151,17 +177,19 @@ def put_into_document(text):
 def main():
     options = words_of()
     peers = options.peers.split(",")
-    classes = [(name, seed, make) for name, seed, make, is_quick in CLASSES
-               if (is_quick or not options.quick) and (not options.only or any(word in name for word in options.only))]
+    classes = [(name, seed, make) for name, seed, make, is_quick in CLASSES if (is_quick or not options.quick) and is_asked(name, options.only)]
+    networks = [] if options.quick else [member for member in flows.FLOWS if is_asked(member[0], options.only)]
     if options.models:
-        for name, seed, make in classes:
+        for name, seed, make in classes + networks:
             print(made(name, seed, make)[1])
         return
-    build_peers(peers)
+    build_peers(peers + (["preflow"] if networks else []))
     build_program()
     text = machine.lines(options.rounds, options.limit) + "\n"
-    table, faults = class_table(classes, peers, options.rounds, options.limit)
-    text += table
+    faults = []
+    if classes:
+        table, faults = class_table(classes, peers, options.rounds, options.limit)
+        text += table
     if not options.quick and not options.only:
         for title, members in growth.SERIES:
             table, more = class_table(members, ["simplex"], options.rounds, options.limit)
@@ -169,6 +197,10 @@ def main():
             faults += more
         table, more = table_table(shops.TABLES, options.rounds, options.limit)
         text += f"\nTables of plants, shops and lanes:\n\n{table}"
+        faults += more
+    if networks:
+        table, more = flow_table(networks, options.rounds, options.limit)
+        text += f"\nGreatest flows, from the first node to the last:\n\n{table}"
         faults += more
     with open(os.path.join(OUT, "table.md"), "w") as file:
         file.write(text)

@@ -21,6 +21,7 @@ class Peer:
 # by the word that is asked of the peer's program
 PEERS = {
     "simplex": Peer("LEMON NetworkSimplex", "lemon", "-llemon"),
+    "preflow": Peer("LEMON Preflow", "lemon", "-llemon"),
     "scaling": Peer("LEMON CostScaling", "lemon", "-llemon"),
     "glpk": Peer("GLPK simplex", "glpk", "-lglpk"),
     "kilter": Peer("GLPK out-of-kilter", "glpk", "-lglpk"),
@@ -79,6 +80,16 @@ def said_of_table(run):
     return f"status {run.status}: {first}"
 
 
+def said_of_flow(run):
+    """Of a run of `maxflow`."""
+    if run.status is None:
+        return "late"
+    first = run.text.split("\n")[0]
+    if run.status == 0 and first.startswith("maxflow "):
+        return "flow " + first[len("maxflow "):]
+    return f"status {run.status}: {first}"
+
+
 def said_by_peer(run):
     if run.status is None:
         return "late"
@@ -87,4 +98,4 @@ def said_by_peer(run):
 
 
 def is_answer(said):
-    return said.split(" ")[0] in ("optimal", "cut", "unbounded")
+    return said.split(" ")[0] in ("optimal", "flow", "cut", "unbounded")

@@ -19,6 +19,7 @@ COMMANDS = (
     (("curve", "model", "a"), ("model",)),
     (("tableau", "model"), ("model",)),
     (("pieces", "model", "certificate"), ("model", "certificate")),
+    (("maxflow", "model", "s", "t"), ("model",)),
     (("trial", "1"), ()),
 )
 

@@ -5,7 +5,7 @@
 
 #include <string>
 
-enum class Kind { Optimal, Cut, Unbounded, Unable };
+enum class Kind { Optimal, Flow, Cut, Unbounded, Unable };
 
 struct Answer {
     Kind kind;
@@ -26,6 +26,7 @@ inline std::string decimal(Wide number) {
 inline std::string text_of(const Answer& answer) {
     switch (answer.kind) {
     case Kind::Optimal: return "optimal " + decimal(answer.cost);
+    case Kind::Flow: return "flow " + decimal(answer.cost);
     case Kind::Cut: return "cut";
     case Kind::Unbounded: return "unbounded";
     default: return "unable";

@@ -1,3 +1,4 @@
+#include "flow.hpp"
 #include "lemon.hpp"
 #include "main.hpp"
 
@@ -5,6 +6,7 @@
 static const Method METHODS[] = {
     {"simplex", [](const Network& net) { return Lemon(net).by_simplex(); }},
     {"scaling", [](const Network& net) { return Lemon(net).by_scaling(); }},
+    {"preflow", by_preflow},
     {"read", only_read},
 };
 

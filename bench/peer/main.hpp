@@ -1,4 +1,4 @@
-// METHOD MODEL..: what another solver says of each model, a line each: `optimal COST`, `cut`, `unbounded` or `unable`.
+// METHOD MODEL..: what another solver says of each model, a line each: `optimal COST`, `flow AMOUNT`, `cut`, `unbounded` or `unable`.
 // The cost is that of the model, constants included, so it equals the cost that monotropic prints.
 #pragma once
 

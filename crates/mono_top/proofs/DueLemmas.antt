@@ -1,34 +1,40 @@
 -- What the status of an answer says of the request. An answer that refuses neither the words, nor the model's file, nor its
 -- text, answers a question about a model that the file spells; and a question about a readable model file is answered.
 -- So a status that one question alone can have (`Ends`) has that question for its cause.
-use Rattle.std.proofs.Common.{◌≡◌, ◌≢◌, ℕ, true, false, List, subst, sym, ap, ◌∙◌, refl, Option, Some, None, inl, inr, rules}
+use Rattle.std.proofs.Common.{◌≡◌, ◌≢◌, ℕ, ◌+◌, true, false, List, subst, sym, ap, ◌∙◌, refl, Option, Some, None, inl, inr, rules}
 use Rattle.std.proofs.lemmas.Bool.{false≢true}
 use Rattle.std.specs.Option.{ForSome}
 use Rattle.theory.specs.Grounded.{Entries}
 use Rattle.outside_io.specs.Files.{Files}
 use Rattle.model_text.specs.declared.fault.FaultWord.{FaultWord}
-use Rattle.model_text.specs.Model.{IsWellFormed, arc_names, place_of}
+use Rattle.model_text.specs.Model.{IsWellFormed, arc_names, node_names, place_of}
 use Rattle.model_text.proofs.SpelledForm.{spelled_is_formed}
 use Rattle.outside_io.specs.Seen.{Outside}
 use Rattle.mono_top.specs.Answer.{Answers, AnswersModel, behind}
-use Rattle.mono_top.specs.Causes.{Asks, AsksFaulty, AsksInvalid, AsksNoFlow, AsksToCheck, AsksTooBig, AsksToSplit, AsksTrial, AsksUnknownArc}
+use Rattle.mono_top.specs.Causes.{Asks, AsksFaulty, AsksInvalid, AsksNoFlow, AsksToCheck, AsksTooBig, AsksToSplit, AsksTrial, AsksUnbounded, AsksUnknownArc, AsksUnknownNode}
+use Rattle.path_cut.specs.declared.flow_found.FlowFound.{FlowFound}
+use Rattle.path_cut.specs.declared.flow_found.FlowFound.TheVariants.{Greatest as GreatestFlow, Unbounded as NoTopFlow, Refused as FlowRefused}
+use Rattle.path_cut.specs.declared.tension_found.TensionFound.{TensionFound}
+use Rattle.path_cut.specs.declared.tension_found.TensionFound.TheVariants.{Greatest as GreatestTension, Unbounded as NoTopTension, Refused as TensionRefused}
+use Rattle.mono_top.specs.Between.{FindsFlow, FindsTension, status_of_flow, status_of_tension}
 use Rattle.mono_top.specs.Checks.{ChecksText}
 use Rattle.mono_top.specs.Due.{IsDue, IsDueOfFiles}
 use Rattle.mono_top.specs.OfModel.{OfModel}
-use Rattle.mono_top.specs.Request.{Request, about_model, about_trial, about_table, Question, solve, check, pieces, show_curve, show_tableau, later_files, files_of}
+use Rattle.mono_top.specs.Request.{Request, about_model, about_trial, about_table, Question, solve, check, pieces, show_curve, show_tableau, greatest_flow, greatest_tension, later_files, files_of}
 use Rattle.mono_top.specs.Reading.{IsOpen, IsOpenFor}
 use Rattle.mono_top.specs.ShowsCurve.{ShowsAt}
 use Rattle.mono_top.specs.ShowsPieces.{SplitsText}
 use Rattle.mono_top.specs.TooBig.{IsTooBigFor}
 use Rattle.mono_top.specs.declared.lines.Place.TheVariants.{First, Second}
 use Rattle.mono_top.specs.declared.status.Status.{Status}
-use Rattle.mono_top.specs.declared.status.Status.TheVariants.{Done, Cut, Rejected, Usage, ModelRefused, Missing, ReadFault, TooLong, TooBig, UnknownArc, NoFlow, TableRefused}
+use Rattle.mono_top.specs.declared.status.Status.TheVariants.{Done, Cut, Rejected, Usage, ModelRefused, Missing, ReadFault, TooLong, TooBig, UnknownArc, NoFlow, Unbounded, UnknownNode, TableRefused}
 use Rattle.mono_top.proofs.CheckLemmas.{IsJudged, judged, invalid_is_rejected, rejected_is_invalid}
 use Rattle.mono_top.proofs.SplitLemmas.{IsSplitAs, flows, flowless, invalid, split_as, invalid_is_rejected as invalid_is_split_rejected, rejected_is_invalid as rejected_is_split_invalid, flowless_is_no_flow, no_flow_is_flowless}
 use Rattle.transport_front.specs.declared.fault.TableWord.{TableWord}
 use Rattle.mono_top.specs.TableFiles.{AsksFaultyTable}
 use Rattle.mono_top.specs.Transports.{AnswersTable}
 use Rattle.mono_top.proofs.TableLemmas.{is_planned, is_unmet, is_refused, status_of_text, of_table_file, faulty_table_always}
+use Rattle.mono_top.proofs.BetweenLemmas.{place_there, of_both, unknown_is_refused, refused_is_unknown, known, flow_kind, tension_kind}
 use Rattle.mono_top.proofs.Ends.{ends, not_by, answer_ends, later_due}
 use Rattle.mono_top.proofs.ModelFileLemmas.{IsDueBehind, of_model_file, of_text, reached, next_of_model, fault_is_refused}
 
@@ -292,6 +298,69 @@ unknown_only files (show_curve arc) m request outside status text asks shows end
     (arc, m, asks, shows_unknown m (place_of (arc_names m) arc) status text shows is)
 unknown_only files question m request outside status text asks answers ended is = absurd (false≢true ended)
 
+-- ---- two nodes
+
+-- nothing that is found has this status
+flow_is_known : (m : Entries) (status : Status) (text : List ℕ) (i k : ℕ) → FindsFlow m i k status text → status ≢ UnknownNode
+flow_is_known m status text i k finds = known_by finds.found finds.kind
+  where
+    known_by : (found : FlowFound) → status ≡ status_of_flow found → status ≢ UnknownNode
+    known_by (GreatestFlow t x side) is unknown = cc
+    known_by (NoTopFlow x walk) is unknown = cc
+    known_by (FlowRefused side sum) is unknown = cc
+
+tension_is_known : (m : Entries) (status : Status) (text : List ℕ) (i k : ℕ) → FindsTension m i k status text → status ≢ UnknownNode
+tension_is_known m status text i k finds = known_by finds.found finds.kind
+  where
+    known_by : (found : TensionFound) → status ≡ status_of_tension found → status ≢ UnknownNode
+    known_by (GreatestTension t u walk) is unknown = cc
+    known_by (NoTopTension u side) is unknown = cc
+    known_by (TensionRefused walk sum) is unknown = cc
+
+unknown_node_only : (files : Files) (question : Question) (m : Entries) (request : Option Request) (outside : Outside) (status : Status) (text : List ℕ)
+    → Asks files question m request → AnswersModel question outside m status text → ends question UnknownNode ≡ true → status ≡ UnknownNode
+    → AsksUnknownNode files request
+unknown_node_only files (greatest_flow from to) m request outside status text asks answers ended is =
+    (from, to, m, inl asks, refused_is_unknown (FindsFlow m) status text (place_of (node_names m) from) (place_of (node_names m) to) answers (flow_is_known m status text) is)
+unknown_node_only files (greatest_tension from to) m request outside status text asks answers ended is =
+    (from, to, m, inr asks, refused_is_unknown (FindsTension m) status text (place_of (node_names m) from) (place_of (node_names m) to) answers (tension_is_known m status text) is)
+unknown_node_only files question m request outside status text asks answers ended is = absurd (false≢true ended)
+
+unbounded_only : (files : Files) (question : Question) (m : Entries) (request : Option Request) (outside : Outside) (status : Status) (text : List ℕ)
+    → Asks files question m request → AnswersModel question outside m status text → ends question Unbounded ≡ true → status ≡ Unbounded
+    → AsksUnbounded files request
+unbounded_only files (greatest_flow from to) m request outside status text asks answers ended is =
+    let both = known (FindsFlow m) status text (place_of (node_names m) from) (place_of (node_names m) to) answers (λ e. cc) in
+    let formed = spelled_is_formed asks.2.0 m asks.2.3 in
+    let kind = flow_kind m (both.i + 1) (both.k + 1) formed (place_there m from both.i both.from_is) (place_there m to both.k both.to_is) status text both.next in
+    (from, to, m, both.i, both.k, (both.from_is, both.to_is), inl (asks, kind.lacks.0 is))
+unbounded_only files (greatest_tension from to) m request outside status text asks answers ended is =
+    let both = known (FindsTension m) status text (place_of (node_names m) from) (place_of (node_names m) to) answers (λ e. cc) in
+    let formed = spelled_is_formed asks.2.0 m asks.2.3 in
+    let kind = tension_kind m (both.i + 1) (both.k + 1) formed (place_there m from both.i both.from_is) (place_there m to both.k both.to_is) status text both.next in
+    (from, to, m, both.i, both.k, (both.from_is, both.to_is), inr (asks, kind.lacks.0 is))
+unbounded_only files question m request outside status text asks answers ended is = absurd (false≢true ended)
+
+unknown_node_always : (request : Option Request) (outside : Outside) (status : Status) (text : List ℕ) → Answers request outside status text
+    → status ≢ ReadFault → ForSome outside.holds (λ files. AsksUnknownNode files request → status ≡ UnknownNode)
+unknown_node_always request outside status text answers read files told (from, to, m, inl asks, none) =
+    let its = answer_of request outside status text answers read files told (greatest_flow from to) m asks in
+    unknown_is_refused (FindsFlow m) status text (place_of (node_names m) from) (place_of (node_names m) to) its.1 none
+unknown_node_always request outside status text answers read files told (from, to, m, inr asks, none) =
+    let its = answer_of request outside status text answers read files told (greatest_tension from to) m asks in
+    unknown_is_refused (FindsTension m) status text (place_of (node_names m) from) (place_of (node_names m) to) its.1 none
+
+unbounded_always : (request : Option Request) (outside : Outside) (status : Status) (text : List ℕ) → Answers request outside status text
+    → status ≢ ReadFault → ForSome outside.holds (λ files. AsksUnbounded files request → status ≡ Unbounded)
+unbounded_always request outside status text answers read files told (from, to, m, i, k, nodes, inl asks) =
+    let its = answer_of request outside status text answers read files told (greatest_flow from to) m asks.0 in
+    let finds = of_both (FindsFlow m) status text (place_of (node_names m) from) (place_of (node_names m) to) i k its.1 nodes.0 nodes.1 in
+    (flow_kind m (i + 1) (k + 1) its.0 (place_there m from i nodes.0) (place_there m to k nodes.1) status text finds).lacks.1 asks.1
+unbounded_always request outside status text answers read files told (from, to, m, i, k, nodes, inr asks) =
+    let its = answer_of request outside status text answers read files told (greatest_tension from to) m asks.0 in
+    let finds = of_both (FindsTension m) status text (place_of (node_names m) from) (place_of (node_names m) to) i k its.1 nodes.0 nodes.1 in
+    (tension_kind m (i + 1) (k + 1) its.0 (place_there m from i nodes.0) (place_there m to k nodes.1) status text finds).lacks.1 asks.1
+
 -- ---- all of it
 
 pub due : (request : Option Request) (outside : Outside) (status : Status) (text : List ℕ) → Answers request outside status text → IsDue request outside status
@@ -344,5 +413,19 @@ due request outside status text answers =
         always = λ files told asks silent.
             let its = answer_of request outside status text answers (quiet silent) files told (show_curve asks.0) asks.1 asks.2 in
             inl (unknown_shows asks.1 (place_of (arc_names asks.1) asks.0) status text its.1 asks.3);
+      };
+      unknown_node = record {
+        only = λ is files told.
+            let its = answered request outside status text answers (search rules) in
+            let answer = its.answer files told in
+            unknown_node_only files its.question answer.0 request (behind answer.1.0 outside) status text answer.1 answer.2 (sym (ap (ends its.question) is) ∙ its.ended) is;
+        always = λ files told asks silent. inl (unknown_node_always request outside status text answers (quiet silent) files told asks);
+      };
+      unbounded = record {
+        only = λ is files told.
+            let its = answered request outside status text answers (search rules) in
+            let answer = its.answer files told in
+            unbounded_only files its.question answer.0 request (behind answer.1.0 outside) status text answer.1 answer.2 (sym (ap (ends its.question) is) ∙ its.ended) is;
+        always = λ files told asks silent. inl (unbounded_always request outside status text answers (quiet silent) files told asks);
       };
     }

@@ -1,11 +1,11 @@
 -- The statuses that the answer to a question may have. A further question is one more line in `ends`, and one in
 -- `answer_ends`; that no other status is due follows for all of them at once.
-use Rattle.std.proofs.Common.{◌≡◌, ◌≢◌, ℕ, ℤ, Bool, true, false, List, sym, ap, ◌∙◌, refl, Option, Some, None, inl, inr}
+use Rattle.std.proofs.Common.{◌≡◌, ◌≢◌, ℕ, ◌+◌, ℤ, Bool, true, false, List, sym, ap, ◌∙◌, refl, Option, Some, None, inl, inr}
 use Rattle.std.proofs.lemmas.Bool.{false≢true}
 use Rattle.theory.specs.Grounded.{Entries}
 use Rattle.theory.specs.Certificate.{Certificate}
 use Rattle.theory.specs.Certificate.Certificate.{optimal, cut, circuit}
-use Rattle.model_text.specs.Model.{arc_names, place_of}
+use Rattle.model_text.specs.Model.{arc_names, node_names, place_of}
 use Rattle.cert_text.specs.declared.feasible.FlowPart.{FlowPart}
 use Rattle.cert_text.specs.declared.feasible.FlowPart.TheVariants.{Yes as YesFlow, No as NoFlow}
 use Rattle.cert_text.specs.declared.feasible.TensionPart.{TensionPart}
@@ -14,9 +14,14 @@ use Rattle.cert_check.specs.declared.judged.Judged.{Judged}
 use Rattle.cert_check.specs.declared.judged.Judged.TheVariants.{Accepted}
 use Rattle.outside_io.specs.Seen.{Outside}
 use Rattle.mono_top.specs.Answer.{AnswersModel, ReadsThen, UnlessTooBig}
+use Rattle.path_cut.specs.declared.flow_found.FlowFound.{FlowFound}
+use Rattle.path_cut.specs.declared.flow_found.FlowFound.TheVariants.{Greatest as GreatestFlow, Unbounded as NoTopFlow, Refused as FlowRefused}
+use Rattle.path_cut.specs.declared.tension_found.TensionFound.{TensionFound}
+use Rattle.path_cut.specs.declared.tension_found.TensionFound.TheVariants.{Greatest as GreatestTension, Unbounded as NoTopTension, Refused as TensionRefused}
+use Rattle.mono_top.specs.Between.{OfNodes, FindsFlow, FindsTension, status_of_flow, status_of_tension}
 use Rattle.mono_top.specs.Checks.{ChecksText, status_by}
 use Rattle.mono_top.specs.FindsFeasible.{status_of_parts}
-use Rattle.mono_top.specs.Request.{Question, solve, check, pieces, feasible, show_curve, show_tableau, later_files}
+use Rattle.mono_top.specs.Request.{Question, solve, check, pieces, feasible, show_curve, show_tableau, greatest_flow, greatest_tension, later_files}
 use Rattle.mono_top.specs.Reading.{IsOpenFor}
 use Rattle.mono_top.specs.ShowsCurve.{ShowsAt}
 use Rattle.mono_top.specs.ShowsPieces.{SplitsText, ShowsBy, ShowsFlow, flow_of}
@@ -25,7 +30,7 @@ use Rattle.mono_top.specs.TooBig.{IsTooBigFor}
 use Rattle.mono_top.specs.Solves.{status_of}
 use Rattle.mono_top.specs.declared.lines.Place.TheVariants.{Second}
 use Rattle.mono_top.specs.declared.status.Status.{Status}
-use Rattle.mono_top.specs.declared.status.Status.TheVariants.{Done, Cut, Circuit, Rejected, Missing, ReadFault, WriteFault, NoMemory, TooLong, TooBig, UnknownArc, NoFlow}
+use Rattle.mono_top.specs.declared.status.Status.TheVariants.{Done, Cut, Circuit, Rejected, Missing, ReadFault, WriteFault, NoMemory, TooLong, TooBig, UnknownArc, NoFlow, Unbounded, UnknownNode}
 use Rattle.mono_top.proofs.ModelFileLemmas.{IsRead, IsDueBehind, of_none, of_last}
 
 -- ---- statuses as tests
@@ -52,6 +57,21 @@ is_showing Done = true
 is_showing UnknownArc = true
 is_showing status = false
 
+-- of a flow between two nodes, and of a tension between them
+abbrev pub is_flow : Status → Bool
+is_flow Done = true
+is_flow Cut = true
+is_flow Unbounded = true
+is_flow UnknownNode = true
+is_flow status = false
+
+abbrev pub is_tension : Status → Bool
+is_tension Done = true
+is_tension Circuit = true
+is_tension Unbounded = true
+is_tension UnknownNode = true
+is_tension status = false
+
 abbrev pub is_done : Status → Bool
 is_done Done = true
 is_done status = false
@@ -75,6 +95,8 @@ ends (pieces certificate) = or_too_big (or_refused is_splitting)
 ends feasible = is_kind
 ends (show_curve arc) = is_showing
 ends show_tableau = or_too_big is_done
+ends (greatest_flow from to) = is_flow
+ends (greatest_tension from to) = is_tension
 
 -- a status that passes a test is none that fails it
 pub not_by : (test : Status → Bool) (status other : Status) → test status ≡ true → test other ≡ false → status ≢ other
@@ -129,6 +151,22 @@ shows_end : (m : Entries) (at : Option ℕ) (status : Status) (text : List ℕ) 
 shows_end m (Some j) status text shows = passes is_showing status Done shows.0 refl
 shows_end m None status text shows = passes is_showing status UnknownArc shows.0 refl
 
+flow_found_ends : (found : FlowFound) → is_flow (status_of_flow found) ≡ true
+flow_found_ends (GreatestFlow t x side) = refl
+flow_found_ends (NoTopFlow x walk) = refl
+flow_found_ends (FlowRefused side sum) = refl
+
+tension_found_ends : (found : TensionFound) → is_tension (status_of_tension found) ≡ true
+tension_found_ends (GreatestTension t u walk) = refl
+tension_found_ends (NoTopTension u side) = refl
+tension_found_ends (TensionRefused walk sum) = refl
+
+nodes_end : (test : Status → Bool) (Next : ℕ → ℕ → Status → List ℕ → Type 0) (from to : Option ℕ) (status : Status) (text : List ℕ) → test UnknownNode ≡ true
+    → ((i k : ℕ) → Next i k status text → test status ≡ true) → OfNodes Next from to status text → test status ≡ true
+nodes_end test Next (Some i) (Some k) status text unknown step answers = step (i + 1) (k + 1) answers
+nodes_end test Next (Some i) None status text unknown step answers = passes test status UnknownNode answers.0 unknown
+nodes_end test Next None to status text unknown step answers = passes test status UnknownNode answers.0 unknown
+
 -- the test with refusals holds where the test without them does
 still_own : (own : Status → Bool) (status : Status) → own status ≡ true → or_refused own status ≡ true
 still_own own Missing passed = refl
@@ -165,6 +203,12 @@ answer_ends feasible outside m status text finds = passes is_kind status (status
 answer_ends (show_curve arc) outside m status text shows = shows_end m (place_of (arc_names m) arc) status text shows
 answer_ends show_tableau outside m status text answers =
     unless_too_big_ends is_done (IsTooBigFor show_tableau m) (ShowsTableau m) status text (λ shows. passes is_done status Done shows.done refl) answers
+answer_ends (greatest_flow from to) outside m status text answers =
+    nodes_end is_flow (FindsFlow m) (place_of (node_names m) from) (place_of (node_names m) to) status text refl
+    (λ i k finds. passes is_flow status (status_of_flow finds.found) finds.kind (flow_found_ends finds.found)) answers
+answer_ends (greatest_tension from to) outside m status text answers =
+    nodes_end is_tension (FindsTension m) (place_of (node_names m) from) (place_of (node_names m) to) status text refl
+    (λ i k finds. passes is_tension status (status_of_tension finds.found) finds.kind (tension_found_ends finds.found)) answers
 
 -- what the answer says of the files that are read after the model
 pub later_due : (question : Question) (outside : Outside) (m : Entries) (status : Status) (text : List ℕ) → AnswersModel question outside m status text

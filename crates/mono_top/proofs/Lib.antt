@@ -4,6 +4,7 @@ pub mod StartLemmas
 pub mod FetchLemmas
 pub mod ModelFileLemmas
 pub mod CheckLemmas
+pub mod BetweenLemmas
 pub mod Ends
 pub mod TableLemmas
 pub mod TransportLemmas

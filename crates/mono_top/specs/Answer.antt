@@ -9,8 +9,9 @@ use Rattle.outside_io.specs.Files.{file_of}
 use Rattle.outside_io.specs.Seen.{Outside}
 use Rattle.mono_top.specs.Lines.{usage_line, too_big_line, missing_line, read_fault_line, too_long_line}
 use Rattle.mono_top.specs.Reading.{IsReadPastMost}
-use Rattle.mono_top.specs.Request.{Request, about_model, about_trial, about_table, Question, solve, check, pieces, feasible, show_curve, show_tableau}
+use Rattle.mono_top.specs.Request.{Request, about_model, about_trial, about_table, Question, solve, check, pieces, feasible, show_curve, show_tableau, greatest_flow, greatest_tension}
 use Rattle.mono_top.specs.OfModel.{OfModel}
+use Rattle.mono_top.specs.Between.{Between, FindsFlow, FindsTension}
 use Rattle.mono_top.specs.Checks.{ChecksText}
 use Rattle.mono_top.specs.ShowsCurve.{ShowsCurve}
 use Rattle.mono_top.specs.ShowsPieces.{SplitsText}
@@ -59,6 +60,8 @@ AnswersModel (pieces certificate) outside m status text =
 AnswersModel feasible outside m status text = FindsFeasible m status text
 AnswersModel (show_curve arc) outside m status text = ShowsCurve arc m status text
 AnswersModel show_tableau outside m status text = UnlessTooBig (IsTooBigFor show_tableau m) (ShowsTableau m) status text
+AnswersModel (greatest_flow from to) outside m status text = Between FindsFlow from to m status text
+AnswersModel (greatest_tension from to) outside m status text = Between FindsTension from to m status text
 
 -- the order of the refusals is the order of the readings
 abbrev pub Answers : Option Request → Outside → Status → List ℕ → Type 0

@@ -1,17 +1,19 @@
 -- When each status comes, by the request and the files that the source holds.
-use Rattle.std.specs.Prelude.{◌≡◌, ◌≢◌, ◌⊎◌, ℕ, List, Option, Some, None, IsSome}
+use Rattle.std.specs.Prelude.{◌≡◌, ◌≢◌, ◌⊎◌, ℕ, ◌+◌, List, Option, Some, None, IsSome}
 use Rattle.std.specs.Option.{ForSome}
-use Rattle.theory.specs.Grounded.{Entries}
+use Rattle.theory.specs.Grounded.{Entries, grounded}
 use Rattle.outside_io.specs.Files.{Files}
 use Rattle.outside_io.specs.Seen.{Outside}
 use Rattle.model_text.specs.declared.fault.FaultWord.{FaultWord}
-use Rattle.model_text.specs.Model.{place_of, arc_names}
+use Rattle.model_text.specs.Model.{place_of, arc_names, node_names}
 use Rattle.model_text.specs.ModelText.{Spells, IsFirstFault}
+use Rattle.path_cut.specs.Returned.{returned}
+use Rattle.path_cut.specs.Says.{LacksGreatestFlow, LacksGreatestTension}
 use Rattle.mono_top.specs.Checks.{IsValidText}
 use Rattle.mono_top.specs.ShowsPieces.{IsFlowlessText}
 use Rattle.mono_top.specs.TooBig.{IsTooBigFor}
 use Rattle.mono_top.specs.Reading.{IsFileWith, AllReadable}
-use Rattle.mono_top.specs.Request.{Request, about_model, about_trial, Question, check, pieces, show_curve, files_of}
+use Rattle.mono_top.specs.Request.{Request, about_model, about_trial, Question, check, pieces, show_curve, greatest_flow, greatest_tension, files_of}
 use Rattle.mono_top.specs.declared.status.Status.{Status}
 use Rattle.mono_top.specs.declared.status.Status.TheVariants.{Done, Usage, Missing, ReadFault, WriteFault, NoMemory, TooLong}
 
@@ -55,6 +57,23 @@ AsksTooBig files request = (question : Question) × (m : Entries) × Asks files 
 abbrev pub AsksUnknownArc : Files → Option Request → Type 0
 AsksUnknownArc files request =
     (arc : List ℕ) × (m : Entries) × Asks files (show_curve arc) m request × (place_of (arc_names m) arc ≡ None)
+
+-- `maxflow` or `maxtension` was asked for, and the model has no node of one of the two names
+abbrev pub AsksUnknownNode : Files → Option Request → Type 0
+AsksUnknownNode files request =
+    (from to : List ℕ) × (m : Entries) × (Asks files (greatest_flow from to) m request ⊎ Asks files (greatest_tension from to) m request)
+    × ((place_of (node_names m) from ≡ None) ⊎ (place_of (node_names m) to ≡ None))
+
+-- the model's nodes of these names stand at these positions
+abbrev pub AreNodes : Entries → List ℕ → List ℕ → ℕ → ℕ → Type 0
+AreNodes m from to i k = (place_of (node_names m) from ≡ Some i) × (place_of (node_names m) to ≡ Some k)
+
+-- `maxflow` or `maxtension` was asked for, and there are feasible flows, or potentials, over some denominator, but none is greatest
+abbrev pub AsksUnbounded : Files → Option Request → Type 0
+AsksUnbounded files request =
+    (from to : List ℕ) × (m : Entries) × (i k : ℕ) × AreNodes m from to i k
+    × (Asks files (greatest_flow from to) m request × LacksGreatestFlow (returned (grounded m) (i + 1) (k + 1))
+    ⊎ Asks files (greatest_tension from to) m request × LacksGreatestTension (grounded m) (i + 1) (k + 1))
 
 -- a command was asked for, and its files are readable
 abbrev pub IsAnswerable : Files → Option Request → Type 0

@@ -3,15 +3,20 @@
 -- A call to `solve` writes the text of exactly one certificate, valid, of the one right kind.
 -- What the certificate says is a claim over all fractions: an optimum, or that there is no feasible flow, or that no plan
 -- is bounded.
-use Rattle.std.specs.Prelude.{◌≡◌, ◌↔◌, ℕ, List, Option}
+use Rattle.std.specs.Prelude.{◌≡◌, ◌↔◌, ℕ, ℤ, List, Option}
 use Rattle.theory.specs.Grounded.{Entries, grounded}
 use Rattle.theory.specs.Best.{FlowIsRefused, TensionIsRefused}
 use Rattle.theory.specs.CertificateLaws.{Says}
 use Rattle.outside_io.specs.Sink.{Grew}
+use Rattle.path_cut.specs.GreatestFlow.{IsGreatestFlow, FlowHasNoTop}
+use Rattle.path_cut.specs.GreatestTension.{IsGreatestTension, TensionHasNoTop}
+use Rattle.path_cut.specs.Returned.{returned}
+use Rattle.path_cut.specs.Says.{FlowSays, TensionSays}
+use Rattle.mono_top.specs.Between.{FindsFlow, FindsTension}
 use Rattle.mono_top.specs.Solves.{IsCertified}
 use Rattle.mono_top.specs.Checks.{IsValidText}
 use Rattle.mono_top.specs.declared.status.Status.{Status}
-use Rattle.mono_top.specs.declared.status.Status.TheVariants.{Done, Cut, Circuit, Rejected}
+use Rattle.mono_top.specs.declared.status.Status.TheVariants.{Done, Cut, Circuit, Rejected, Unbounded}
 
 pub record Concludes (m : Entries) (status : Status) (old new : Option (List ℕ)) : Type 0 where
   pub text : List ℕ
@@ -34,3 +39,24 @@ pub record ConcludesFeasible (m : Entries) (status : Status) : Type 0 where
   pub flow_refused : (status ≡ Cut) ↔ FlowIsRefused (grounded m)
   pub tension_refused : (status ≡ Circuit) ↔ ((¬ FlowIsRefused (grounded m)) × TensionIsRefused (grounded m))
   pub neither_refused : (status ≡ Done) ↔ ((¬ FlowIsRefused (grounded m)) × (¬ TensionIsRefused (grounded m)))
+
+-- What a call to `maxflow` concludes of two nodes of a model: what was found, and what it says over all fractions. Each of its three statuses comes
+-- exactly where it says so.
+pub record ConcludesFlow (m : Entries) (from to : ℕ) (status : Status) (old new : Option (List ℕ)) : Type 0 where
+  pub text : List ℕ
+  pub finds : FindsFlow m from to status text
+  pub written : Grew old new text
+  pub says : FlowSays (returned (grounded m) from to) finds.found
+  pub greatest : (status ≡ Done) ↔ ((t : ℤ) × IsGreatestFlow (returned (grounded m) from to) t)
+  pub unbounded : (status ≡ Unbounded) ↔ FlowHasNoTop (returned (grounded m) from to)
+  pub refused : (status ≡ Cut) ↔ FlowIsRefused (returned (grounded m) from to)
+
+-- The same of a call to `maxtension`.
+pub record ConcludesTension (m : Entries) (from to : ℕ) (status : Status) (old new : Option (List ℕ)) : Type 0 where
+  pub text : List ℕ
+  pub finds : FindsTension m from to status text
+  pub written : Grew old new text
+  pub says : TensionSays (grounded m) from to finds.found
+  pub greatest : (status ≡ Done) ↔ ((t : ℤ) × IsGreatestTension (grounded m) from to t)
+  pub unbounded : (status ≡ Unbounded) ↔ TensionHasNoTop (grounded m) from to
+  pub refused : (status ≡ Circuit) ↔ TensionIsRefused (grounded m)

@@ -1,5 +1,6 @@
 pub mod Answer
 pub mod Ascending
+pub mod Between
 pub mod Causes
 pub mod Checks
 pub mod CountsReadings

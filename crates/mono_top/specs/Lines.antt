@@ -12,6 +12,9 @@ usage_line = codes "usage: monotropic COMMAND WORDS\n"
 abbrev pub unknown_arc_line : List ℕ
 unknown_arc_line = codes "unknown arc\n"
 
+abbrev pub unknown_node_line : List ℕ
+unknown_node_line = codes "unknown node\n"
+
 abbrev pub too_big_line : List ℕ
 too_big_line = codes "too big\n"
 

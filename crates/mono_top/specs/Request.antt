@@ -1,5 +1,5 @@
 -- What a list of words asks for. A further command is one more constructor, and one more line in each definition here.
-use Rattle.std.specs.Prelude.{List, [], ◌∷◌, ℕ, map, codes, Option, Some, None, nat_eq, if◌then◌else◌, string_bytes, String}
+use Rattle.std.specs.Prelude.{◌≢◌, List, [], ◌∷◌, ℕ, map, codes, Option, Some, None, nat_eq, if◌then◌else◌, string_bytes, String}
 use Rattle.std.specs.Cmp.Lexicographic.{pointwise}
 use Rattle.std.specs.Option.{option_map}
 use Rattle.std.specs.declared.alloc.Global.{Global}
@@ -7,9 +7,9 @@ use Rattle.mono_top.specs.TrialNumber.{trial_number}
 use Rattle.mono_top.specs.declared.command.Command.{Command}
 use Rattle.mono_top.specs.declared.command.Command.TheVariants.{OnModel, Trial, Transport}
 use Rattle.mono_top.specs.declared.command.Task.{Task}
-use Rattle.mono_top.specs.declared.command.Task.TheVariants.{Solve, Check, Pieces, Feasible, Curve, Tableau}
+use Rattle.mono_top.specs.declared.command.Task.TheVariants.{Solve, Check, Pieces, Feasible, Curve, Tableau, MaxFlow, MaxTension}
 
--- what may be asked about a model, with the names of the files that are read after the model's
+-- what may be asked about a model, with the names of the files that are read after the model's, or of an arc, or of two nodes
 pub data Question : Type 0 where
   solve : Question
   check : (certificate : List ℕ) → Question
@@ -17,6 +17,8 @@ pub data Question : Type 0 where
   feasible : Question
   show_curve : (arc : List ℕ) → Question
   show_tableau : Question
+  greatest_flow : (from to : List ℕ) → Question
+  greatest_tension : (from to : List ℕ) → Question
 
 -- what may be asked for: a question about a model, with the name of its file; the trial model of a number, which names no file; or the plan of
 -- a table, with the name of its file
@@ -41,11 +43,25 @@ request_of (command ∷ model ∷ other ∷ []) =
     if pointwise nat_eq command (codes "check") then Some (about_model model (check other))
     else (if pointwise nat_eq command (codes "pieces") then Some (about_model model (pieces other))
     else (if pointwise nat_eq command (codes "curve") then Some (about_model model (show_curve other)) else None))
+request_of (command ∷ model ∷ from ∷ to ∷ []) =
+    if pointwise nat_eq from to then None
+    else (if pointwise nat_eq command (codes "maxflow") then Some (about_model model (greatest_flow from to))
+    else (if pointwise nat_eq command (codes "maxtension") then Some (about_model model (greatest_tension from to)) else None))
 request_of words = None
 
 -- what the words of a call ask for
 abbrev pub asked : List (String Global) → Option Request
 asked words = request_of (texts words)
+
+-- the two nodes that a question names have different names
+abbrev pub IsApart : Question → Type 0
+IsApart (greatest_flow from to) = from ≢ to
+IsApart (greatest_tension from to) = from ≢ to
+IsApart question = Unit {0}
+
+abbrev pub IsApartRequest : Request → Type 0
+IsApartRequest (about_model model question) = IsApart question
+IsApartRequest request = Unit {0}
 
 -- the files that are read after the model, in this order
 abbrev pub later_files : Question → List (List ℕ)
@@ -68,6 +84,8 @@ question_by (Pieces certificate) = pieces certificate.now
 question_by Feasible = feasible
 question_by (Curve arc) = show_curve arc.now
 question_by Tableau = show_tableau
+question_by (MaxFlow from to) = greatest_flow from.now to.now
+question_by (MaxTension from to) = greatest_tension from.now to.now
 
 abbrev pub request_by : Command → Request
 request_by (OnModel model task) = about_model model.now (question_by task)

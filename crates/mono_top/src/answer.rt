@@ -5,9 +5,10 @@ ghost use Rattle.mono_top.specs.Answer.{AnswersModel};
 ghost use Rattle.mono_top.specs.CountsReadings.{CountsReadings, ReadsCurves, ReadsWithin};
 ghost use Rattle.mono_top.specs.Due.{IsDue};
 ghost use Rattle.mono_top.specs.Replies.{Replies, RepliesWith};
-ghost use Rattle.mono_top.specs.Request.{about_model, asked, files_of, question_by};
+ghost use Rattle.mono_top.specs.Request.{IsApart, about_model, asked, files_of, question_by};
 ghost use Rattle.mono_top.specs.Starts.{StartsFiles, StartsLater};
 
+use crate::between::{max_flow, max_tension};
 use crate::check::check;
 use crate::command::{Command, Task, command_of};
 use crate::feasible::feasible;
@@ -79,6 +80,7 @@ fn of_model<S: Shelf, L: Ledger>(
     task: Task,
     steps: &mut Steps<L>,
 ) -> Result<Reply, AllocError>
+    requires apart { IsApart (question_by task.entry) }
     ensures replies { Replies (Some (about_model name.now (question_by task.entry)))
         (since (S.seen shelf.old) (S.seen shelf.new)) result }
     ensures readings { ReadsWithin name.now (question_by task.entry)
@@ -101,6 +103,7 @@ fn answer<S: Shelf, L: Ledger>(
     task: Task,
     steps: &mut Steps<L>,
 ) -> Result<Reply, AllocError>
+    requires apart { IsApart (question_by task.entry) }
     ensures answers { RepliesWith
         (AnswersModel (question_by task.entry) (since (S.seen shelf.old) (S.seen shelf.new))
         model.now.entries) result }
@@ -115,5 +118,7 @@ fn answer<S: Shelf, L: Ledger>(
         Task::Feasible => Ok(feasible(alloc, model, steps)?),
         Task::Curve { arc } => Ok(show_curve(alloc, model, arc)?),
         Task::Tableau => Ok(show_tableau(alloc, model)?),
+        Task::MaxFlow { from, to } => Ok(max_flow(alloc, model, from, to, steps)?),
+        Task::MaxTension { from, to } => Ok(max_tension(alloc, model, from, to, steps)?),
     }
 }

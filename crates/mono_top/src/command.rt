@@ -1,6 +1,6 @@
 // The words of a call, as a command.
-ghost use Rattle.std.specs.Prelude.{◌≡◌, ◌∷◌, [], option_map};
-ghost use Rattle.mono_top.specs.Request.{about_trial, asked, request_of, request_by};
+ghost use Rattle.std.specs.Prelude.{◌≡◌, ◌∷◌, [], IfSome, option_map};
+ghost use Rattle.mono_top.specs.Request.{IsApartRequest, about_trial, asked, request_of, request_by};
 ghost use Rattle.mono_top.specs.TrialNumber.{trial_number};
 
 use crate::trial_number::trial_number;
@@ -22,22 +22,32 @@ pub(crate) enum Task<'a> {
     Feasible,
     Curve { arc: &'a str },
     Tableau,
+    MaxFlow { from: &'a str, to: &'a str },
+    MaxTension { from: &'a str, to: &'a str },
 }
 
 /// The words' own bytes serve as names, so this takes no memory.
 pub(crate) fn command_of(words: &[String]) -> Option<Command<'_>>
-    ensures { option_map request_by result ≡ asked words.now }
+    ensures asked { option_map request_by result ≡ asked words.now }
+    ensures apart { IfSome result (λ command. IsApartRequest (request_by command)) }
 {
     match words {
         [command, word] => with_one(command.as_str(), word.as_str()),
         [command, model, other] => with_two(command.as_str(), model.as_str(), other.as_str()),
+        [command, model, from, to] => with_three(
+            command.as_str(),
+            model.as_str(),
+            from.as_str(),
+            to.as_str(),
+        ),
         _ => None,
     }
 }
 
 /// The commands with one word.
 fn with_one<'a>(command: &str, word: &'a str) -> Option<Command<'a>>
-    ensures { option_map request_by result ≡ request_of (command.now ∷ word.now ∷ []) }
+    ensures asked { option_map request_by result ≡ request_of (command.now ∷ word.now ∷ []) }
+    ensures apart { IfSome result (λ command. IsApartRequest (request_by command)) }
 {
     if command == "trial" {
         return trial_of(word);
@@ -58,7 +68,8 @@ fn with_one<'a>(command: &str, word: &'a str) -> Option<Command<'a>>
 }
 
 fn trial_of(word: &str) -> Option<Command<'_>>
-    ensures { option_map request_by result ≡ option_map about_trial (trial_number word.now) }
+    ensures asked { option_map request_by result ≡ option_map about_trial (trial_number word.now) }
+    ensures apart { IfSome result (λ command. IsApartRequest (request_by command)) }
 {
     match trial_number(word) {
         Some(number) => Some(Command::Trial { number }),
@@ -68,7 +79,8 @@ fn trial_of(word: &str) -> Option<Command<'_>>
 
 /// The commands with two words.
 fn with_two<'a>(command: &str, model: &'a str, other: &'a str) -> Option<Command<'a>>
-    ensures { option_map request_by result ≡ request_of (command.now ∷ model.now ∷ other.now ∷ []) }
+    ensures asked { option_map request_by result ≡ request_of (command.now ∷ model.now ∷ other.now ∷ []) }
+    ensures apart { IfSome result (λ command. IsApartRequest (request_by command)) }
 {
     let task = if command == "check" {
         Task::Check { certificate: other }
@@ -76,6 +88,24 @@ fn with_two<'a>(command: &str, model: &'a str, other: &'a str) -> Option<Command
         Task::Pieces { certificate: other }
     } else if command == "curve" {
         Task::Curve { arc: other }
+    } else {
+        return None;
+    };
+    Some(Command::OnModel { model, task })
+}
+
+/// The commands with three words, the last two of which differ.
+fn with_three<'a>(command: &str, model: &'a str, from: &'a str, to: &'a str) -> Option<Command<'a>>
+    ensures asked { option_map request_by result ≡ request_of (command.now ∷ model.now ∷ from.now ∷ to.now ∷ []) }
+    ensures apart { IfSome result (λ command. IsApartRequest (request_by command)) }
+{
+    if from == to {
+        return None;
+    }
+    let task = if command == "maxflow" {
+        Task::MaxFlow { from, to }
+    } else if command == "maxtension" {
+        Task::MaxTension { from, to }
     } else {
         return None;
     };

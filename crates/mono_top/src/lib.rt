@@ -3,6 +3,8 @@
 
 mod answer;
 mod ascending;
+mod between;
+mod between_text;
 mod check;
 mod command;
 mod feasible;
@@ -28,6 +30,8 @@ pub use status::Status;
 pub use steady::run_steadily;
 pub use top::run;
 
+#[cfg(test)]
+mod between_tests;
 #[cfg(test)]
 mod check_tests;
 #[cfg(test)]

@@ -1,6 +1,6 @@
 // The lines that refuse.
 ghost use Rattle.std.specs.Prelude.{◌≡◌, IfOk};
-ghost use Rattle.mono_top.specs.Lines.{usage_line, unknown_arc_line, too_big_line, no_flow_line, missing_line, read_fault_line, too_long_line, word_of, model_line};
+ghost use Rattle.mono_top.specs.Lines.{usage_line, unknown_arc_line, unknown_node_line, too_big_line, no_flow_line, missing_line, read_fault_line, too_long_line, word_of, model_line};
 
 use itoa::Buffer;
 use model_text::FaultWord;
@@ -24,6 +24,12 @@ pub(crate) fn unknown_arc() -> &'static [u8]
     ensures { result.now ≡ unknown_arc_line }
 {
     b"unknown arc\n"
+}
+
+pub(crate) fn unknown_node() -> &'static [u8]
+    ensures { result.now ≡ unknown_node_line }
+{
+    b"unknown node\n"
 }
 
 pub(crate) fn too_big() -> &'static [u8]

@@ -238,7 +238,7 @@ fn append_weight(out: &mut Vec<u8>, weight: i64) -> Result<(), AllocError>
     Ok(())
 }
 
-fn append_step(out: &mut Vec<u8>, model: &Model, step: Step) -> Result<(), AllocError>
+pub(crate) fn append_step(out: &mut Vec<u8>, model: &Model, step: Step) -> Result<(), AllocError>
     requires { step.arc.0 < length model.now.entries.nodes + length model.now.entries.arcs }
     ensures { OnOk result (out.new.items ≡ out.old.items ++ step_line model.now.entries step) }
 {

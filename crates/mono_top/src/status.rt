@@ -25,6 +25,9 @@ pub enum Status {
     UnknownArc,
     /// The certificate is valid, and there is no flow in it.
     NoFlow,
+    /// There are feasible flows, or potentials, and none is greatest.
+    Unbounded,
+    UnknownNode,
     /// The first bad line of the table, counted from 1, and the word for its first fault.
     TableRefused { line: u32, word: TableWord },
 }
@@ -49,6 +52,8 @@ impl Status {
             Status::TooBig => 11,
             Status::UnknownArc => 12,
             Status::NoFlow => 15,
+            Status::Unbounded => 16,
+            Status::UnknownNode => 17,
             Status::TableRefused { .. } => 18,
         }
     }

@@ -1,17 +1,17 @@
 // The top call.
-ghost use Rattle.std.specs.Prelude.{◌≡◌, ◌≢◌, ◌⊎◌, ℕ, List, [], None, IsSome};
+ghost use Rattle.std.specs.Prelude.{◌≡◌, ◌≢◌, ◌⊎◌, ℕ, ◌+◌, List, [], None, IsSome};
 ghost use Rattle.std.specs.Option.{ForSome};
 ghost use Rattle.theory.specs.Grounded.{Entries};
 ghost use Rattle.model_text.specs.declared.fault.FaultWord.{FaultWord as Fault};
 ghost use Rattle.outside_io.specs.Counts.{Rose, Counts};
 ghost use Rattle.outside_io.specs.Seen.{Moves, since};
 ghost use Rattle.mono_top.specs.Answer.{Answers};
-ghost use Rattle.mono_top.specs.Causes.{Asks, AsksFaulty, AsksToCheck, AsksInvalid, AsksNoFlow, AsksTooBig, AsksTrial, AsksUnknownArc, ComesAlways, ComesBy, EndsTrial, IsAnswerable, IsUnhindered, GoesThrough};
+ghost use Rattle.mono_top.specs.Causes.{Asks, AsksFaulty, AsksToCheck, AsksInvalid, AsksNoFlow, AsksTooBig, AsksTrial, AsksUnbounded, AsksUnknownArc, AsksUnknownNode, AreNodes, ComesAlways, ComesBy, EndsTrial, IsAnswerable, IsUnhindered, GoesThrough};
 ghost use Rattle.mono_top.specs.CountsReadings.{CountsReadings};
-ghost use Rattle.mono_top.specs.Headline.{Concludes, ConcludesCheck, ConcludesFeasible};
+ghost use Rattle.mono_top.specs.Headline.{Concludes, ConcludesCheck, ConcludesFeasible, ConcludesFlow, ConcludesTension};
 ghost use Rattle.mono_top.specs.Ending.{WritesDue, WritesPart};
 ghost use Rattle.mono_top.specs.Reading.{ReachesMissing, ReachesPastMost, ReachesTooLong, HoldsFirst};
-ghost use Rattle.mono_top.specs.Request.{asked, files_of, solve, feasible};
+ghost use Rattle.mono_top.specs.Request.{asked, files_of, solve, feasible, greatest_flow, greatest_tension};
 ghost use Rattle.mono_top.specs.Starts.{StartsFiles};
 ghost use Rattle.mono_top.specs.TableFiles.{AsksTable, AsksFaultyTable};
 ghost use Rattle.mono_top.specs.Transports.{ConcludesTable};
@@ -56,6 +56,14 @@ pub fn run<S: Shelf, K: Sink, L: Ledger>(
     ensures feasible { IsUnhindered result → ForSome (S.seen shelf.old).holds (λ files. (m : Entries)
         → Asks files feasible m (asked words.now) → ConcludesFeasible m result) }
 
+    // A greatest flow and a greatest tension between two nodes, over all fractions, or why there is none.
+    ensures maxflow { IsUnhindered result → ForSome (S.seen shelf.old).holds (λ files. (m : Entries) (from to : List ℕ) (i k : ℕ)
+        → Asks files (greatest_flow from to) m (asked words.now) → AreNodes m from to i k
+        → ConcludesFlow m (i + 1) (k + 1) result (K.written out.old) (K.written out.new)) }
+    ensures maxtension { IsUnhindered result → ForSome (S.seen shelf.old).holds (λ files. (m : Entries) (from to : List ℕ) (i k : ℕ)
+        → Asks files (greatest_tension from to) m (asked words.now) → AreNodes m from to i k
+        → ConcludesTension m (i + 1) (k + 1) result (K.written out.old) (K.written out.new)) }
+
     // The plan of a table: none undercuts it, over all fractions; or plants and shops that fall short, where there is none.
     ensures transport { IsUnhindered result → ForSome (S.seen shelf.old).holds (λ files. (t : Table)
         → AsksTable files t (asked words.now)
@@ -90,6 +98,12 @@ pub fn run<S: Shelf, K: Sink, L: Ledger>(
         (since (S.seen shelf.old) (S.seen shelf.new)) result }
     ensures unknown_arc { ComesBy Status.UnknownArc
         (λ files. AsksUnknownArc files (asked words.now))
+        (since (S.seen shelf.old) (S.seen shelf.new)) result }
+    ensures unknown_node { ComesBy Status.UnknownNode
+        (λ files. AsksUnknownNode files (asked words.now))
+        (since (S.seen shelf.old) (S.seen shelf.new)) result }
+    ensures unbounded { ComesBy Status.Unbounded
+        (λ files. AsksUnbounded files (asked words.now))
         (since (S.seen shelf.old) (S.seen shelf.new)) result }
     ensures table_refused { (line : ℕ) (word : TableFault) → ComesBy (Status.TableRefused line word)
         (λ files. AsksFaultyTable files line word (asked words.now))

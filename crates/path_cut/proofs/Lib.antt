@@ -16,3 +16,4 @@ pub mod Lifts
 -- Whole nets:
 pub mod Same
 pub mod Returns
+pub mod Says

@@ -1,6 +1,7 @@
 -- What is found of the flows of a network with a return, and of the tensions between two nodes.
-use Rattle.std.specs.Prelude.{◌≡◌, ℕ, ℤ, Bool, List, length}
+use Rattle.std.specs.Prelude.{◌≡◌, ℕ, ◌<◌, ℤ, Bool, List, length}
 use Rattle.theory.specs.declared.network.Step.{Step}
+use Rattle.theory.specs.Limits.{IsWithin}
 use Rattle.theory.specs.Network.{Network, «at»}
 use Rattle.theory.specs.Feasible.{IsFeasibleFlow, IsFeasiblePotential}
 use Rattle.theory.specs.Cut.{IsNegativeCut, cut_sum}
@@ -34,3 +35,14 @@ abbrev pub IsTensionFound : Network → ℕ → ℕ → TensionFound → Type 0
 IsTensionFound net from to (GreatestTension t u walk) = IsReached net from to t u walk
 IsTensionFound net from to (NoTopTension u side) = IsFeasiblePotential 1 net u × (length side ≡ net.nodes) × IsOpenCut net side from to
 IsTensionFound net from to (NoTension walk sum) = WalkIsThere net walk × IsNegativeCircuit net walk × (sum ≡ span_sum net walk)
+
+-- the numbers of what is found are within a limit
+abbrev pub FlowsWithin : ℕ → FlowFound → Type 0
+FlowsWithin most (GreatestFlow t x side) = (j : ℕ) → IsWithin most («at» x j)
+FlowsWithin most (NoTopFlow x walk) = (j : ℕ) → IsWithin most («at» x j)
+FlowsWithin most (NoFlow side sum) = Unit {0}
+
+abbrev pub PotentialsWithin : ℕ → ℕ → TensionFound → Type 0
+PotentialsWithin nodes most (GreatestTension t u walk) = (i : ℕ) → i < nodes → IsWithin most («at» u i)
+PotentialsWithin nodes most (NoTopTension u side) = (i : ℕ) → i < nodes → IsWithin most («at» u i)
+PotentialsWithin nodes most (NoTension walk sum) = Unit {0}

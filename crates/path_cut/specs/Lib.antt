@@ -8,6 +8,7 @@ pub mod TensionLaws
 pub mod Returned
 pub mod Found
 pub mod Whole
+pub mod Says
 -- How it is found:
 pub mod Paintings
 pub mod Augmenting

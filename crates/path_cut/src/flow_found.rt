@@ -1,25 +1,27 @@
 // The greatest flow between two nodes of a grounded network, from nothing.
-ghost use Rattle.std.specs.Prelude.{◌≡◌, ◌≢◌, ◌+◌, ◌<◌, ◌≤◌, length, IfOk};
+ghost use Rattle.std.specs.Prelude.{◌≡◌, ◌≢◌, ◌+◌, ◌*◌, ◌<◌, ◌≤◌, ℕ, length, IfOk};
 ghost use Rattle.theory.specs.Network.{«at»};
 ghost use Rattle.theory.specs.Cut.{IsNegativeCut};
 ghost use Rattle.theory.specs.Feasible.{IsFeasibleFlow};
 ghost use Rattle.theory.specs.Certificate.{AreNumbers};
-ghost use Rattle.theory.specs.Limits.{grounded_nodes_most};
+ghost use Rattle.theory.specs.Limits.{flow_most, grounded_nodes_most, IsWithin};
 ghost use Rattle.net_incidence.specs.WithoutBases.{passable_arcs_most};
 ghost use Rattle.path_cut.specs.GreatestFlow.{return_arc, HasReturn, IsCutOf, IsOpenPath};
 ghost use Rattle.path_cut.specs.Returned.{returned};
-ghost use Rattle.path_cut.specs.Found.{IsFlowFound};
+ghost use Rattle.path_cut.specs.Found.{IsFlowFound, FlowsWithin};
 ghost use Rattle.path_cut.specs.Whole.{IsWhole};
 ghost use Rattle.net_incidence.specs.declared.sums.Sum.TheVariants.{Whole as WholeSum};
 
+use crate::drawing::{drawn_or_found, gains_of};
 use crate::flow::{FlowTop, greatest_flow};
 use crate::keeping::{keep_marks, keep_numbers, keep_walk};
 use crate::returned::{Returned, with_return};
-use feasible_flow::{FlowAns, feasible_flow};
+use feasible_flow::FlowAns;
 use ground_net::Grounded;
 use mono_curve::Steps;
 use net_incidence::{Flows, Marks, NodeId, Sum, Walk};
 use painted_search::Work;
+use quick_start::Sketch;
 use std::alloc::{AllocError, Global};
 use std::sync::ledger::Ledger;
 
@@ -44,7 +46,7 @@ pub enum FlowFound {
     },
 }
 
-/// All room is taken before the first reading, and then that of what is found.
+/// All room is taken before the first reading, and then that of what is found. Begins with drawn flows, where they stand the test.
 pub fn flow_between<L: Ledger>(
     alloc: Global,
     g: &Grounded,
@@ -56,15 +58,43 @@ pub fn flow_between<L: Ledger>(
     requires to_there { to.0 < g.now.network.nodes }
     requires apart { from.0 ≢ to.0 }
     ensures found { IfOk result (IsFlowFound (returned g.now.network from.0 to.0)) }
+    ensures within { IfOk result (FlowsWithin (4 * flow_most)) }
     ensures no_fewer { steps.old ≤ steps.new }
 {
     let net = with_return(alloc, g.net(), g.curves(), from, to)?;
+    found_over(alloc, &net, steps)
+}
+
+/// The greatest flow over the last arc.
+fn found_over<L: Ledger>(
+    alloc: Global,
+    net: &Returned,
+    steps: &mut Steps<L>,
+) -> Result<FlowFound, AllocError>
+    requires returns { HasReturn net.now }
+    requires some_node { 1 ≤ net.now.nodes }
+    requires few_nodes { net.now.nodes ≤ grounded_nodes_most }
+    requires few_arcs { length net.now.arcs ≤ passable_arcs_most }
+    requires one_curve_each { length net.now.curves ≡ length net.now.arcs }
+    ensures found { IfOk result (IsFlowFound net.now) }
+    ensures within { IfOk result (FlowsWithin (4 * flow_most)) }
+    ensures no_fewer { steps.old ≤ steps.new }
+{
     let graph = net.net();
     let curves = net.curves();
+    let gains = gains_of(alloc, curves)?;
+    let mut sketch = Sketch::take(alloc, graph.nodes(), graph.arcs())?;
     let mut work = Work::take(alloc, graph.nodes(), graph.arcs())?;
-    match feasible_flow(graph, curves, &mut work, steps) {
-        FlowAns::Flow => carried(alloc, &net, &mut work, steps),
-        FlowAns::Cut => refused(alloc, &net, work.marks()),
+    match drawn_or_found(
+        graph,
+        curves,
+        gains.as_slice(),
+        &mut sketch,
+        &mut work,
+        steps,
+    ) {
+        FlowAns::Flow => carried(alloc, net, &mut work, steps),
+        FlowAns::Cut => refused(alloc, net, work.marks()),
     }
 }
 
@@ -85,6 +115,7 @@ fn carried<L: Ledger>(
     requires feasible { IsFeasibleFlow 1 net.now work.old.flows }
     requires near { AreNumbers (length net.now.arcs) work.old.flows }
     ensures found { IfOk result (IsFlowFound net.now) }
+    ensures within { IfOk result (FlowsWithin (4 * flow_most)) }
     ensures no_fewer { steps.old ≤ steps.new }
 {
     let graph = net.net();
@@ -105,7 +136,9 @@ fn keep_greatest(
     requires feasible { IsFeasibleFlow 1 net.now work.now.flows }
     requires carries { «at» work.now.flows (return_arc net.now) ≡ flow }
     requires cut { IsCutOf net.now work.now.reached flow }
-    ensures { IfOk result (IsFlowFound net.now) }
+    requires near { (j : ℕ) → IsWithin (4 * flow_most) («at» work.now.flows j) }
+    ensures found { IfOk result (IsFlowFound net.now) }
+    ensures within { IfOk result (FlowsWithin (4 * flow_most)) }
 {
     let _net = net;
     let flows = keep_numbers(alloc, work.flows())?;
@@ -116,7 +149,9 @@ fn keep_greatest(
 fn keep_open(alloc: Global, net: &Returned, work: &Work) -> Result<FlowFound, AllocError>
     requires feasible { IsFeasibleFlow 1 net.now work.now.flows }
     requires open_path { IsOpenPath net.now work.now.walk }
-    ensures { IfOk result (IsFlowFound net.now) }
+    requires near { (j : ℕ) → IsWithin (4 * flow_most) («at» work.now.flows j) }
+    ensures found { IfOk result (IsFlowFound net.now) }
+    ensures within { IfOk result (FlowsWithin (4 * flow_most)) }
 {
     let _net = net;
     let flows = keep_numbers(alloc, work.flows())?;
@@ -129,7 +164,8 @@ fn refused(alloc: Global, net: &Returned, side: &[bool]) -> Result<FlowFound, Al
     requires one_each { length side.now ≡ net.now.nodes }
     requires one_curve_each { length net.now.curves ≡ length net.now.arcs }
     requires negative { IsNegativeCut net.now side.now }
-    ensures { IfOk result (IsFlowFound net.now) }
+    ensures found { IfOk result (IsFlowFound net.now) }
+    ensures within { IfOk result (FlowsWithin (4 * flow_most)) }
 {
     let sum = number_of(net.net().cut_sum(net.curves(), side));
     let side = keep_marks(alloc, side)?;

@@ -2,6 +2,7 @@
 #![tactic(auto)]
 
 mod capacities;
+mod drawing;
 mod endless;
 mod flow;
 mod flow_found;
@@ -18,3 +19,6 @@ pub use flow_found::{FlowFound, flow_between};
 pub use returned::{Returned, with_return};
 pub use tension::{TensionTop, greatest_tension};
 pub use tension_found::{TensionFound, tension_between};
+
+#[cfg(test)]
+mod tests;

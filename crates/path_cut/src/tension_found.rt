@@ -6,7 +6,7 @@ ghost use Rattle.theory.specs.Feasible.{IsFeasiblePotential};
 ghost use Rattle.theory.specs.Limits.{number_most, level_most, IsWithin};
 ghost use Rattle.theory.specs.ReadingBound.{reading_bound};
 ghost use Rattle.path_cut.specs.GreatestTension.{rise, IsPathOf, IsOpenCut};
-ghost use Rattle.path_cut.specs.Found.{IsTensionFound};
+ghost use Rattle.path_cut.specs.Found.{IsTensionFound, PotentialsWithin};
 
 use crate::flow_found::number_of;
 use crate::keeping::{keep_marks, keep_numbers, keep_walk};
@@ -52,6 +52,7 @@ pub fn tension_between<L: Ledger>(
     requires to_there { to.0 < g.now.network.nodes }
     requires apart { from.0 ≢ to.0 }
     ensures found { IfOk result (IsTensionFound g.now.network from.0 to.0) }
+    ensures within { IfOk result (PotentialsWithin g.now.network.nodes (4 * (g.now.network.nodes * number_most))) }
     ensures no_fewer { steps.old ≤ steps.new }
     ensures count { steps.new ≤ steps.old + reading_bound g.now.network.nodes (length g.now.network.arcs) level_most }
 {
@@ -81,6 +82,7 @@ fn reached<L: Ledger>(
     requires feasible { IsFeasiblePotential 1 g.now.network work.old.potentials }
     requires near { (i : ℕ) → i < g.now.network.nodes → IsWithin (g.now.network.nodes * number_most) («at» work.old.potentials i) }
     ensures found { IfOk result (IsTensionFound g.now.network from.0 to.0) }
+    ensures within { IfOk result (PotentialsWithin g.now.network.nodes (4 * (g.now.network.nodes * number_most))) }
     ensures no_fewer { steps.old ≤ steps.new }
     ensures count { steps.new ≤ steps.old + 3 * (g.now.network.nodes + 1) * length g.now.network.arcs }
 {
@@ -102,7 +104,9 @@ fn keep_greatest(
     requires feasible { IsFeasiblePotential 1 g.now.network work.now.potentials }
     requires rises { rise work.now.potentials ends.0.0 ends.1.0 ≡ tension }
     requires path { IsPathOf g.now.network work.now.walk ends.0.0 ends.1.0 tension }
-    ensures { IfOk result (IsTensionFound g.now.network ends.0.0 ends.1.0) }
+    requires near { (i : ℕ) → i < g.now.network.nodes → IsWithin (4 * (g.now.network.nodes * number_most)) («at» work.now.potentials i) }
+    ensures found { IfOk result (IsTensionFound g.now.network ends.0.0 ends.1.0) }
+    ensures within { IfOk result (PotentialsWithin g.now.network.nodes (4 * (g.now.network.nodes * number_most))) }
 {
     let (_g, _ends) = (g, ends);
     let potentials = keep_numbers(alloc, work.potentials())?;
@@ -123,7 +127,9 @@ fn keep_open(
     requires nodes { work.now.nodes ≡ g.now.network.nodes }
     requires feasible { IsFeasiblePotential 1 g.now.network work.now.potentials }
     requires open_cut { IsOpenCut g.now.network work.now.reached ends.0.0 ends.1.0 }
-    ensures { IfOk result (IsTensionFound g.now.network ends.0.0 ends.1.0) }
+    requires near { (i : ℕ) → i < g.now.network.nodes → IsWithin (4 * (g.now.network.nodes * number_most)) («at» work.now.potentials i) }
+    ensures found { IfOk result (IsTensionFound g.now.network ends.0.0 ends.1.0) }
+    ensures within { IfOk result (PotentialsWithin g.now.network.nodes (4 * (g.now.network.nodes * number_most))) }
 {
     let (_g, _ends) = (g, ends);
     let potentials = keep_numbers(alloc, work.potentials())?;
@@ -136,7 +142,8 @@ fn refused(alloc: Global, g: &Grounded, walk: &[Step]) -> Result<TensionFound, A
     requires there { WalkIsThere g.now.network walk.now }
     requires short { length walk.now < 2 ^ 31 }
     requires negative { IsNegativeCircuit g.now.network walk.now }
-    ensures { (from to : ℕ) → IfOk result (IsTensionFound g.now.network from to) }
+    ensures found { (from to : ℕ) → IfOk result (IsTensionFound g.now.network from to) }
+    ensures within { (nodes most : ℕ) → IfOk result (PotentialsWithin nodes most) }
 {
     let sum = number_of(g.net().circuit_sum(g.curves(), walk));
     let walk = keep_walk(alloc, walk)?;

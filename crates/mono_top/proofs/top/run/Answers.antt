@@ -1,8 +1,11 @@
-use Rattle.std.proofs.Common.{refl}
+use Rattle.std.proofs.Common.{refl, ◌+◌}
 use Rattle.outside_io.specs.Seen.{since}
 use Rattle.outside_io.specs.Sink.{Grew}
 use Rattle.mono_top.specs.Fetch.{text_of}
-use Rattle.mono_top.specs.Request.{asked, solve, feasible}
+use Rattle.model_text.specs.Model.{node_names, place_of}
+use Rattle.mono_top.specs.Between.{FindsFlow, FindsTension}
+use Rattle.mono_top.specs.Request.{asked, solve, feasible, greatest_flow, greatest_tension}
+use Rattle.mono_top.proofs.BetweenLemmas.{of_both, place_there, concludes_flow, concludes_tension}
 use Rattle.mono_top.proofs.DueLemmas.{answer_of, checked}
 use Rattle.mono_top.proofs.StartLemmas.{starved_by}
 use Rattle.mono_top.proofs.HeadlineLemmas.{concludes, concludes_check, concludes_feasible}
@@ -37,6 +40,26 @@ returns-in-All-clause-transport g c unhindered files told t asks =
     rw (← c.as_slice.ensures) (c.write_all.ensures.all c.in-All.is) in
     let plans = table_answer (asked c.args.words.now) outside c.in-Ok.reply.status (text_of c.in-Ok.reply.text) c.in-Ok.ensures.replies unhindered.read files told t asks in
     concludes_table t c.in-Ok.reply.status (text_of c.in-Ok.reply.text) (g.K.Sink.written c.args.out.now) (g.K.Sink.written c.write_all.new.out) plans grew
+
+pub returns-in-All-clause-maxflow : goal.returns-in-All-clause-maxflow
+returns-in-All-clause-maxflow g c unhindered files told m from to i k asks nodes =
+    let outside = since (g.S.Shelf.seen c.args.shelf.now) (g.S.Shelf.seen c.reply_to.new.shelf) in
+    let grew : Grew (g.K.Sink.written c.args.out.now) (g.K.Sink.written c.write_all.new.out) (text_of c.in-Ok.reply.text) =
+    rw (← c.as_slice.ensures) (c.write_all.ensures.all c.in-All.is) in
+    let its = answer_of (asked c.args.words.now) outside c.in-Ok.reply.status (text_of c.in-Ok.reply.text) c.in-Ok.ensures.replies unhindered.read files told (greatest_flow from to) m asks in
+    let finds = of_both (FindsFlow m) c.in-Ok.reply.status (text_of c.in-Ok.reply.text) (place_of (node_names m) from) (place_of (node_names m) to) i k its.1 nodes.0 nodes.1 in
+    concludes_flow m (i + 1) (k + 1) its.0 (place_there m from i nodes.0) (place_there m to k nodes.1) c.in-Ok.reply.status (text_of c.in-Ok.reply.text)
+    (g.K.Sink.written c.args.out.now) (g.K.Sink.written c.write_all.new.out) finds grew
+
+pub returns-in-All-clause-maxtension : goal.returns-in-All-clause-maxtension
+returns-in-All-clause-maxtension g c unhindered files told m from to i k asks nodes =
+    let outside = since (g.S.Shelf.seen c.args.shelf.now) (g.S.Shelf.seen c.reply_to.new.shelf) in
+    let grew : Grew (g.K.Sink.written c.args.out.now) (g.K.Sink.written c.write_all.new.out) (text_of c.in-Ok.reply.text) =
+    rw (← c.as_slice.ensures) (c.write_all.ensures.all c.in-All.is) in
+    let its = answer_of (asked c.args.words.now) outside c.in-Ok.reply.status (text_of c.in-Ok.reply.text) c.in-Ok.ensures.replies unhindered.read files told (greatest_tension from to) m asks in
+    let finds = of_both (FindsTension m) c.in-Ok.reply.status (text_of c.in-Ok.reply.text) (place_of (node_names m) from) (place_of (node_names m) to) i k its.1 nodes.0 nodes.1 in
+    concludes_tension m (i + 1) (k + 1) its.0 (place_there m from i nodes.0) (place_there m to k nodes.1) c.in-Ok.reply.status (text_of c.in-Ok.reply.text)
+    (g.K.Sink.written c.args.out.now) (g.K.Sink.written c.write_all.new.out) finds grew
 
 -- a call starves where its work does
 pub returns-in-Err-clause-starts : goal.returns-in-Err-clause-starts

@@ -17,7 +17,10 @@ refused-requires-clause-negative g c =
     rw c.walk.ensures (circuit-of c.net-net.result.now c.curves-curves.result.now c.args.g.now.network is c.feasible_tension.new.work.walk (c.feasible_tension.ensures.circuit c.in-Circuit.is))
 
 pub returns-clause-found : goal.returns-clause-found
-returns-clause-found g c = c.refused.ensures c.args.from.0 c.args.to.0
+returns-clause-found g c = c.refused.ensures.found c.args.from.0 c.args.to.0
+
+pub returns-clause-within : goal.returns-clause-within
+returns-clause-within g c = c.refused.ensures.within _ _
 
 -- a feasible potential and a greatest tension together take less than one unit of the bound
 room_left : (n m : ℕ) → n * m + 3 * (n + 1) * m ≤ reading_bound n m level_most

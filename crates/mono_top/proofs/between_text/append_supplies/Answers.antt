@@ -1,0 +1,8 @@
+use Rattle.std.proofs.Common.{refl}
+use Rattle.cert_text.specs.CertificateText.{flow_line}
+use Rattle.cert_text.proofs.Texts.{appended}
+use Rattle.mono_top.proofs.between_text.append_supplies.Goals as goal
+
+pub loop-i-preserved : goal.loop-i-preserved
+loop-i-preserved c =
+    appended c.loop-i.i (flow_line c.args.model.now.entries c.args.flows.now) _ _ _ _ c.loop-i.invariant c.in_ok-append_flow.ensures refl
