@@ -80,7 +80,7 @@ fn of_model<S: Shelf, L: Ledger>(
     task: Task,
     steps: &mut Steps<L>,
 ) -> Result<Reply, AllocError>
-    requires apart { IsApart (question_by task.entry) }
+    requires apart { IsApart (question_by task) }
     ensures replies { Replies (Some (about_model name.now (question_by task.entry)))
         (since (S.seen shelf.old) (S.seen shelf.new)) result }
     ensures readings { ReadsWithin name.now (question_by task.entry)
@@ -103,7 +103,7 @@ fn answer<S: Shelf, L: Ledger>(
     task: Task,
     steps: &mut Steps<L>,
 ) -> Result<Reply, AllocError>
-    requires apart { IsApart (question_by task.entry) }
+    requires apart { IsApart (question_by task) }
     ensures answers { RepliesWith
         (AnswersModel (question_by task.entry) (since (S.seen shelf.old) (S.seen shelf.new))
         model.now.entries) result }

@@ -1,8 +1,9 @@
 // The texts of `maxflow` and `maxtension`.
-ghost use Rattle.std.specs.Prelude.{◌≡◌, ℕ, ◌+◌, ◌<◌, ◌≤◌, ◌++◌, length, IfOk, OnOk};
+ghost use Rattle.std.specs.Prelude.{◌≡◌, ℕ, ◌+◌, ◌<◌, ◌≤◌, ◌++◌, ◌∷◌, length, IfOk, OnOk};
 ghost use Rattle.std.specs.List.{flat_map};
 ghost use Rattle.theory.specs.Circuit.{step as step_of};
-ghost use Rattle.theory.specs.Grounded.{grounded};
+ghost use Rattle.theory.specs.Network.{«at»};
+ghost use Rattle.model_text.specs.Printed.{printed_number};
 ghost use Rattle.cert_text.specs.CertificateText.{texts_below, number_line, supply_lines, arc_lines, flow_line, side_line, step_line};
 ghost use Rattle.cert_text.specs.FeasibilityText.{tension_line};
 ghost use Rattle.mono_top.specs.Between.{FlowFits, TensionFits, flow_text, tension_text, side_lines, tension_lines};
@@ -120,9 +121,17 @@ fn append_flow(out: &mut Vec<u8>, model: &Model, flows: &[i64], j: u32) -> Resul
     ensures { OnOk result (out.new.items ≡ out.old.items ++ flow_line model.now.entries flows.now j) }
 {
     append_arc_name(out, model, j)?;
-    append_number(out, i128::from(flows[j as usize]))?;
+    append_number_at(out, flows, j)?;
     out.push(b'\n')?;
     Ok(())
+}
+
+/// A space and the number at a position.
+fn append_number_at(out: &mut Vec<u8>, numbers: &[i64], k: u32) -> Result<(), AllocError>
+    requires { k < length numbers.now }
+    ensures { OnOk result (out.new.items ≡ out.old.items ++ 32 ∷ printed_number («at» numbers.now k)) }
+{
+    append_number(out, i128::from(numbers[k as usize]))
 }
 
 fn append_tensions(out: &mut Vec<u8>, model: &Model, u: &[i64]) -> Result<(), AllocError>
@@ -142,7 +151,7 @@ fn append_tension(out: &mut Vec<u8>, model: &Model, u: &[i64], i: u32) -> Result
 {
     out.extend_from_slice(b"node")?;
     append_node_name(out, model, i + 1)?;
-    append_number(out, i128::from(u[i as usize + 1]))?;
+    append_number_at(out, u, i + 1)?;
     out.push(b'\n')?;
     Ok(())
 }

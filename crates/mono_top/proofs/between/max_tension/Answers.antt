@@ -1,0 +1,11 @@
+-- two different names are those of two different nodes
+use Rattle.std.proofs.Common.{◌≡◌, Some, rules}
+use Rattle.model_text.specs.Model.{node_names, place_of}
+use Rattle.mono_top.proofs.BetweenLemmas.{places_differ}
+use Rattle.mono_top.proofs.between.max_tension.Goals as goal
+
+pub tension_reply-requires-clause-apart : goal.tension_reply-requires-clause-apart
+tension_reply-requires-clause-apart g c =
+    let first : place_of (node_names c.args.model.now.entries) c.args.from.now ≡ Some c.in-Some.i = search rules in
+    let second : place_of (node_names c.args.model.now.entries) c.args.to.now ≡ Some c.in-Some-node_of.k = search rules in
+    places_differ (node_names c.args.model.now.entries) c.args.from.now c.args.to.now c.in-Some.i c.in-Some-node_of.k first second c.requires.apart
