@@ -1,0 +1,3 @@
+-- The changes text:
+pub mod ChangesLines
+pub mod ChangesLaws
