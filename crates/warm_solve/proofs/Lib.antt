@@ -6,3 +6,6 @@ pub mod Changed
 pub mod Parts
 -- A certificate with other numbers:
 pub mod Staying
+-- The changes text:
+pub mod ChangesLines
+pub mod ChangesLaws

@@ -6,3 +6,9 @@ pub mod Renumbered
 pub mod Kept
 -- In the code: one part of a sum in another's place
 pub mod Part
+-- The changes text:
+pub mod ChangesText
+pub mod ChangesTextLaws
+pub mod ChangesReading
+-- What the code keeps:
+pub mod HeldChanges

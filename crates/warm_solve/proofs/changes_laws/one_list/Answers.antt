@@ -1,0 +1,5 @@
+use Rattle.warm_solve.proofs.ChangesLaws as law
+use Rattle.warm_solve.proofs.changes_laws.one_list.Goals as goal
+
+pub returns : goal.returns
+returns c = law.one_list
