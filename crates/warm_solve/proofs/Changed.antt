@@ -1,13 +1,12 @@
 -- One curve changes. A certificate speaks of each arc's curve by itself: pairs on curves, flows in domains, ends of sums. So all
 -- that it says of the other arcs still holds, and its sums move by what the changed arc added before and adds now. A circuit
 -- passes the arc once at most, since its arcs differ.
-use Rattle.std.proofs.Common.{◌≡◌, ◌≢◌, ℕ, zero, suc, ◌+◌, ◌<◌, ◌≤◌, ℤ, pos, ◌+ℤ◌, Bool, List, [], ◌∷◌, length, set, refl, sym, ap, subst, ◌∙◌, ⊎_elim, arith}
-use Rattle.std.specs.Prelude.{◌<ℤ◌}
+use Rattle.std.proofs.Common.{◌≡◌, ◌≢◌, ℕ, zero, suc, ◌<◌, ◌≤◌, ℤ, ◌+ℤ◌, Bool, List, [], ◌∷◌, length, set, sym, ap, subst, ◌∙◌, ⊎_elim, arith}
 use Rattle.std.proofs.lemmas.Bool.{cases_eq, cases_lt}
 use Rattle.std.proofs.lemmas.Int.{ints}
 use Rattle.std.proofs.lemmas.List.{set-set, set-get_or}
 use Rattle.theory.specs.declared.network.Step.{Step}
-use Rattle.theory.specs.Sums.{sum_below, Each}
+use Rattle.theory.specs.Sums.{Each}
 use Rattle.theory.specs.CurveList.{Listing}
 use Rattle.theory.specs.Ends.{IsFinite, whole}
 use Rattle.theory.specs.Domain.{InDomain}

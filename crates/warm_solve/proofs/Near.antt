@@ -7,16 +7,16 @@ use Rattle.std.proofs.lemmas.Int.{ints}
 use Rattle.theory.specs.declared.ext.Ext.{Ext}
 use Rattle.theory.specs.declared.ext.Ext.TheVariants.{At}
 use Rattle.theory.specs.declared.network.Step.{Step}
-use Rattle.theory.specs.Limits.{IsWithin, AreWithin, number_most, base_most, flow_most, sum_most, grounded_arcs_most}
+use Rattle.theory.specs.Limits.{IsWithin, AreWithin, number_most, flow_most, sum_most, grounded_arcs_most}
 use Rattle.theory.specs.Ends.{whole, negated}
-use Rattle.theory.specs.CurveList.{IsCurveList, first, last, item}
+use Rattle.theory.specs.CurveList.{IsCurveList, first, last}
 use Rattle.theory.specs.Sums.{sum_below}
 use Rattle.theory.specs.Span.{span_low, span_high}
 use Rattle.theory.specs.Cost.{cost}
 use Rattle.theory.specs.Network.{Network, «at», curve}
 use Rattle.theory.specs.Totals.{total_cost}
 use Rattle.theory.specs.Cut.{leaves, enters, cut_end, cut_sum}
-use Rattle.theory.specs.Circuit.{step, passing_end, span_end, span_sum}
+use Rattle.theory.specs.Circuit.{step, span_end, span_sum}
 use Rattle.theory.specs.Certificate.{AreNumbers, IsWalkOf}
 use Rattle.theory.proofs.Bounds.{nothing_within, within_more, within_sum, negated-within, item_within, cost-within, span_low-within, span_high-within}
 use Rattle.theory.proofs.Places.{first_at, last_at}

@@ -2,12 +2,12 @@
 -- there is finite and the capacity with it is still negative; the flow of a circuit is in the new domain, and the same of
 -- the end that the circuit passes there. Where the test fails the certificate shows nothing of the changed network.
 use Rattle.std.proofs.Common.{◌≡◌, ◌≢◌, ℕ, ◌<◌, ℤ, pos, ◌+ℤ◌, ◌-ℤ◌, Bool, List, length, IfSome, IfNone, Option, None, Some, sym, ap, ap₂, subst, ◌∙◌, arith}
-use Rattle.std.specs.Prelude.{◌<ℤ◌, ◌≤ℤ◌}
+use Rattle.std.specs.Prelude.{◌<ℤ◌}
 use Rattle.std.proofs.lemmas.Int.{ints}
 use Rattle.theory.specs.declared.ext.Ext.{Ext}
 use Rattle.theory.specs.declared.network.Step.{Step}
 use Rattle.theory.specs.CurveList.{Listing}
-use Rattle.theory.specs.Ends.{IsFinite, whole}
+use Rattle.theory.specs.Ends.{IsFinite}
 use Rattle.theory.specs.Limits.{IsWithin, sum_most}
 use Rattle.theory.specs.Domain.{InDomain}
 use Rattle.theory.specs.OnCurve.{IsOnCurve}
@@ -16,8 +16,8 @@ use Rattle.theory.specs.Network.{Network, «at», tail, head, curve}
 use Rattle.theory.specs.Conserved.{tension}
 use Rattle.theory.specs.Feasible.{IsFeasibleFlow}
 use Rattle.theory.specs.Totals.{total_cost}
-use Rattle.theory.specs.Cut.{holds, cut_end, cut_sum, IsNegativeCut}
-use Rattle.theory.specs.Circuit.{step, passing_end, span_end, span_sum, SpanCounts, IsNegativeCircuit}
+use Rattle.theory.specs.Cut.{holds, cut_sum, IsNegativeCut}
+use Rattle.theory.specs.Circuit.{step, passing_end, span_sum, SpanCounts, IsNegativeCircuit}
 use Rattle.theory.specs.Certificate.{Certificate, IsPotentialOf, IsWalkOf, Shows, IsValid, bare}
 use Rattle.theory.specs.Certificate.Certificate.{optimal, cut, circuit}
 use Rattle.net_incidence.specs.PartOf.{part_of, crossing_end}
@@ -27,7 +27,7 @@ use Rattle.warm_solve.specs.Part.{IsSumWith}
 use Rattle.warm_solve.specs.Renumbered.{renumbered, with_number, Stays}
 use Rattle.warm_solve.proofs.Near.{cost-near, capacity-near, span-near}
 use Rattle.warm_solve.proofs.Changed.{pair-stays, cost-moves, cut-stays, capacity-moves, flow-stays, circuit-stays, span-untouched, counts-untouched, span-moves, counts-stay, passing-ends, was}
-use Rattle.warm_solve.proofs.Parts.{IsFound, found-is, none-is}
+use Rattle.warm_solve.proofs.Parts.{found-is, none-is}
 
 module _ (net : Network) (a : ℕ) (b : Listing) (good : IsGrounded net) (there : a < length net.arcs) where
   -- ---- a pair

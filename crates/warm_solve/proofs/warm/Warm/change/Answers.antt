@@ -1,6 +1,6 @@
 use Rattle.std.proofs.Common.{◌≡◌, ap, sym, subst, ◌∙◌}
 use Rattle.theory.specs.Network.{Network}
-use Rattle.theory.specs.Certificate.{Certificate, IsValid}
+use Rattle.theory.specs.Certificate.{IsValid}
 use Rattle.theory.proofs.Certificates.{certificate_says}
 use Rattle.ground_net.specs.Ground.{replaced}
 use Rattle.cert_text.specs.Shown.{shown}
