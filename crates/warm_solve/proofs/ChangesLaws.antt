@@ -1,6 +1,6 @@
 -- Laws of the changes text. The first bad line is found by going over the lines; no line before it has a fault, so there is one. A line that passes
 -- makes a change whose arc has a name of the model and whose curve passed the tests of a list.
-use Rattle.std.specs.Prelude.{◌≡◌, ℕ, zero, suc, ◌+◌, ◌<◌, ◌≤◌, Bool, true, false, not, ◌&&◌, ◌||◌, Option, None, Some, is_none, unwrap_or, ◌⊎◌, List, [], ◌∷◌, ◌++◌, length, take, drop, slice_index_or, All, refl}
+use Rattle.std.specs.Prelude.{◌≡◌, ℕ, zero, suc, ◌+◌, ◌<◌, ◌≤◌, Bool, true, false, not, Option, None, Some, is_none, unwrap_or, ◌⊎◌, List, [], ◌∷◌, ◌++◌, length, take, drop, All, refl}
 use Rattle.std.specs.List.{list_any}
 use Rattle.std.specs.Option.{option_map}
 use Rattle.std.specs.Str.{bytes_eq, is_utf8}
@@ -8,19 +8,18 @@ use Rattle.std.proofs.Common.{arith, get_or, ◌∙◌, sym, ap, subst, inl, inr
 use Rattle.std.proofs.lemmas.Bool.Decides.{nat_tests}
 use Rattle.std.proofs.lemmas.List.{drop_more, take_all, length-map, append-nil}
 use Rattle.std.proofs.lemmas.List.Elements.{All-push}
-use Rattle.theory.specs.CurveList.{IsCurveList}
 use Rattle.theory.specs.Grounded.{Entries, NodeEntry, ArcEntry}
 use Rattle.model_text.specs.declared.fault.FaultWord.{FaultWord}
 use Rattle.model_text.specs.Lines.{text_lines, line_words}
-use Rattle.model_text.specs.Model.{node_names, arc_names, place_of, IsWithinLimits}
+use Rattle.model_text.specs.Model.{node_names, arc_names, place_of}
 use Rattle.model_text.specs.ModelText.{has_words, first_fault, word_at, is_node_line, is_arc_line, part_items, part_listing, part_base, part_lacks_numbers, part_is_beyond, are_misshapen, has_fall}
 use Rattle.theory.specs.Limits.{number_most, IsWithin}
 use Rattle.model_text.proofs.FirstPlace.{found}
 use Rattle.model_text.proofs.SoundLines.{passes, yes}
-use Rattle.model_text.proofs.SoundLists.{IsSound, AreInLimits, in-limits, sound-shaped, sound-list, sound-small, within, filled, listing-is}
+use Rattle.model_text.proofs.SoundLists.{IsSound, in-limits, sound-shaped, sound-list, sound-small, within, listing-is}
 use Rattle.warm_solve.specs.ChangesText.{Change, Spells, IsFirstFault, bad_line, no_words, NoFaultBefore, fault_at, changes_of, changes_in, change_of, part_of, arc_of, lacks_name, has_all, is_unknown, named_tests, entry_tests, line_tests, is_header}
 use Rattle.warm_solve.specs.ChangesTextLaws.{OneListLaw, SpelledOrBadLaw, OneFaultLaw, DecidedLaw, SpelledFitsLaw, IsChangeOf}
-use Rattle.warm_solve.proofs.ChangesLines.{begins, goes_on, of_node, of_arc, of_none, node_changes, arc_changes, changes_nothing, blank_adds, header_adds, changes-after, fault-here}
+use Rattle.warm_solve.proofs.ChangesLines.{begins, goes_on, of_node, of_arc, of_none, node_changes, arc_changes, blank_adds, header_adds, changes-after, fault-here}
 
 pub one_list : OneListLaw
 one_list m text changes others first second = first.are ∙ sym second.are

@@ -1,5 +1,5 @@
 -- The tests of one line of a changes text, by what the reader asks in turn, and the changes of the lines so far with one line more.
-use Rattle.std.specs.Prelude.{◌≡◌, ◌≢◌, ℕ, ◌+◌, ◌<◌, ◌-◌, ◌==◌, Bool, true, false, not, ◌&&◌, ◌||◌, if◌then◌else◌, Option, None, Some, Result, Ok, Err, List, [], ◌∷◌, ◌++◌, length, take, drop, codes, refl}
+use Rattle.std.specs.Prelude.{◌≡◌, ◌≢◌, ℕ, ◌+◌, ◌<◌, ◌-◌, ◌==◌, Bool, true, false, not, ◌&&◌, if◌then◌else◌, Option, None, Some, Result, Ok, Err, List, [], ◌∷◌, ◌++◌, length, take, drop, codes, refl}
 use Rattle.std.specs.Borrow.{Bor}
 use Rattle.std.specs.List.{list_any, flat_map, enumerate_from}
 use Rattle.std.specs.Str.{bytes_eq, is_utf8}
@@ -20,7 +20,7 @@ use Rattle.model_text.proofs.LineLemmas.{nothing}
 use Rattle.model_text.proofs.LinesLemmas.{line-is, front-after, here}
 use Rattle.model_text.proofs.ReadLemmas.{passes-same}
 use Rattle.model_text.proofs.SoundLines.{passes}
-use Rattle.warm_solve.specs.ChangesText.{Change, line_tests, entry_tests, named_tests, curve_tests, part_of, is_header, changes_in, change_of, changes_of, fault_at, NoFaultBefore, bad_line}
+use Rattle.warm_solve.specs.ChangesText.{line_tests, entry_tests, named_tests, curve_tests, part_of, is_header, changes_in, change_of, changes_of, fault_at, NoFaultBefore, bad_line}
 use Rattle.warm_solve.specs.ChangesReading.{IsRightError, error_at, has_numbers}
 
 -- ---- the header

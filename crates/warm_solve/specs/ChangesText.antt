@@ -1,7 +1,7 @@
 -- The changes text: curves that are put in the place of others in the grounded network of a model, one a line. Which text spells which changes,
 -- and where it spells none, the first bad line and its first word. Lines, words, names and numbers are those of a model text, and so is the part
 -- of a line that lists a curve. The tests of a line are a list in order; a line is tested with the count of the changes before it.
-use Rattle.std.specs.Prelude.{◌≡◌, ℕ, ◌+◌, ◌<◌, ◌==◌, nat_le, Bool, true, false, not, ◌&&◌, ◌||◌, if◌then◌else◌, Option, None, Some, is_none, unwrap_or, List, [], ◌∷◌, ◌++◌, length, take, drop, slice_index_or, codes, IsTrue}
+use Rattle.std.specs.Prelude.{◌≡◌, ℕ, ◌+◌, ◌<◌, ◌==◌, nat_le, Bool, false, not, ◌&&◌, ◌||◌, if◌then◌else◌, Option, None, Some, is_none, unwrap_or, List, [], ◌∷◌, ◌++◌, length, take, drop, slice_index_or, codes, IsTrue}
 use Rattle.std.specs.List.{list_any, flat_map, enumerate_from}
 use Rattle.std.specs.Option.{option_map}
 use Rattle.std.specs.Str.{bytes_eq, is_utf8}

@@ -1,5 +1,4 @@
 -- The changes of the code as those of a text.
-use Rattle.std.specs.Prelude.{List, map}
 use Rattle.warm_solve.specs.declared.changes.Change.{Change as Held}
 use Rattle.warm_solve.specs.ChangesText.{Change}
 
