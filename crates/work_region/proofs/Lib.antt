@@ -1,0 +1,3 @@
+pub mod Pasting
+pub mod Views
+pub mod LentBlocks
