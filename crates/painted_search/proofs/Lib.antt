@@ -1,4 +1,6 @@
 pub mod Rooms
+pub mod StepsAsWords
+pub mod Written
 pub mod Overwriting
 pub mod Growing
 pub mod Leaving

@@ -1,7 +1,7 @@
 -- Back along the labels. The steps that were found, last first, are a branch from the node at hand to the goal. That node's label
 -- is the step of the tree that reached it, and begins at a node with a smaller number: put in front, it makes the branch longer
 -- by one. The root has no label, and is the only reached node without one.
-use Rattle.std.proofs.Common.{◌≡◌, ◌≢◌, ℕ, zero, suc, ◌-◌, ◌<◌, ◌≤◌, Option, Some, None, List, [], ◌∷◌, length, reverse, refl, sym, ap, ◌∙◌, subst, arith}
+use Rattle.std.proofs.Common.{◌≡◌, ◌≢◌, ℕ, zero, suc, ◌<◌, ◌≤◌, Option, Some, None, List, [], ◌∷◌, length, reverse, refl, sym, ap, ◌∙◌, subst, arith}
 use Rattle.std.proofs.lemmas.List.{reverse-append, length-reverse}
 use Rattle.std.proofs.lemmas.Option.{none-some, same_Some}
 use Rattle.theory.specs.declared.colour.Colour.{Colour}

@@ -2,9 +2,11 @@
 #![tactic(auto)]
 
 mod grow;
+mod layout;
 mod painter;
 mod searching;
 mod trace;
+mod words;
 mod work;
 
 pub use painter::Painter;

@@ -1,51 +1,52 @@
 // The working room of a solve: all that its passes write, taken once.
-ghost use Rattle.std.specs.Prelude.{◌≡◌, ◌+◌, ◌*◌, ◌≤◌, length, take, drop, vec_capacity};
-ghost use Rattle.painted_search.specs.Room.{IsSized};
+ghost use Rattle.std.specs.Prelude.{◌≡◌, ◌≤◌, length, vec_capacity};
+ghost use Rattle.painted_search.specs.Laid.{words_for};
 
+use crate::layout::Layout;
+use crate::words::{index_of, label_of, word_of};
 use std::alloc::{AllocError, Global};
 use std::marker::Model;
 use theory::{ArcId, NodeId, Step};
+use work_region::Region;
 
 /// A flow for each arc, a potential, a mark and a label for each node, and a walk. Marks and labels speak of the last search: after
 /// it a node has no label exactly where the search didn't reach it or began there. Whoever writes them otherwise, by `mark`,
 /// `set_label` or `clear_labels`, says what they mean from then on.
 #[derive(Drop)]
 pub struct Work {
-    nodes: usize,
-    arcs: usize,
-    flows: Vec<i64>,
-    // the potentials, then the scratch
-    words: Vec<i64>,
-    queue: Vec<u32>,
+    region: Region,
+    layout: Layout,
+    // marks and steps are lent as lists of their own
     marks: Vec<bool>,
-    labels: Vec<Option<Step>>,
     walk: Vec<Step>,
-    ghost sized: { IsSized nodes arcs flows.items (take nodes words.items) marks.items labels.items walk.items },
-    ghost words_there: { length words.items ≡ 3 * nodes },
-    ghost scratch_there: { length (drop nodes words.items) ≡ 2 * nodes },
-    ghost queue_there: { length queue.items ≡ 2 * nodes + 1 },
-    ghost walk_room: { nodes ≤ vec_capacity walk },
+    ghost full: { length region.carved ≡ words_for layout.nodes layout.arcs },
+    ghost one_mark_each: { length marks.items ≡ layout.nodes },
+    ghost short_walk: { length walk.items ≤ layout.nodes },
+    ghost walk_room: { layout.nodes ≤ vec_capacity walk },
 }
 
 impl Model for Work {
-    ghost use Rattle.std.specs.Prelude.{take, drop};
+    ghost use Rattle.std.specs.Prelude.{take, drop, map};
+    ghost use Rattle.work_region.specs.Blocks.{block_words};
+    ghost use Rattle.painted_search.specs.StepWords.{label_of, index_of};
     ghost use Rattle.painted_search.specs.Room.{Room};
+    ghost use Rattle.painted_search.specs.LaidFacts.{sized-laid, scratch-laid, queue-laid};
 
     ghost Value = { Room };
 
     ghost view = { λ work. record {
-      nodes = work.nodes;
-      arcs = work.arcs;
-      flows = work.flows.items;
-      potentials = take work.nodes work.words.items;
+      nodes = work.layout.nodes;
+      arcs = work.layout.arcs;
+      flows = block_words work.region work.layout.flows;
+      potentials = take work.layout.nodes (block_words work.region work.layout.words);
       reached = work.marks.items;
-      labels = work.labels.items;
+      labels = map label_of (block_words work.region work.layout.labels);
       walk = work.walk.items;
-      scratch = drop work.nodes work.words.items;
-      queue = work.queue.items;
-      sized = work.sized;
-      two_words_each = work.scratch_there;
-      two_slots_each = work.queue_there;
+      scratch = drop work.layout.nodes (block_words work.region work.layout.words);
+      queue = map index_of (block_words work.region work.layout.queue);
+      sized = sized-laid work.region work.layout work.marks.items work.walk.items work.full work.one_mark_each work.short_walk;
+      two_words_each = scratch-laid work.region work.layout work.full;
+      two_slots_each = queue-laid work.region work.layout work.full;
     } };
 }
 
@@ -67,14 +68,12 @@ impl Work {
         requires few_arcs { arcs ≤ count_most }
         ensures { IfOk result (IsEmpty nodes arcs) }
     {
+        let mut region = Region::take(alloc, Layout::words_for(nodes, arcs))?;
+        let layout = Layout::carve(&mut region, nodes, arcs);
         Ok(Work {
-            nodes,
-            arcs,
-            flows: vec![in alloc; 0i64; arcs]?,
-            words: vec![in alloc; 0i64; 3 * nodes]?,
-            queue: vec![in alloc; 0u32; 2 * nodes + 1]?,
+            region,
+            layout,
             marks: vec![in alloc; false; nodes]?,
-            labels: vec![in alloc; None; nodes]?,
             walk: Vec::with_capacity(alloc, nodes)?,
         })
     }
@@ -82,41 +81,42 @@ impl Work {
     pub fn nodes(&self) -> usize
         ensures { result ≡ self.now.nodes }
     {
-        self.nodes
+        self.layout.nodes
     }
 
     pub fn arcs(&self) -> usize
         ensures { result ≡ self.now.arcs }
     {
-        self.arcs
+        self.layout.arcs
     }
 
     pub fn flow(&self, arc: ArcId) -> i64
         requires { arc.0 < self.now.arcs }
         ensures { result ≡ «at» self.now.flows arc.0 }
     {
-        self.flows[arc.0 as usize]
+        self.region.get(&self.layout.flows, arc.0 as usize)
     }
 
     pub fn set_flow(&mut self, arc: ArcId, flow: i64)
         requires { arc.0 < self.old.arcs }
         ensures { self.new ≡ with_flow self.old arc.0 flow }
     {
-        self.flows[arc.0 as usize] = flow;
+        self.region.set(&self.layout.flows, arc.0 as usize, flow);
     }
 
     pub fn potential(&self, node: NodeId) -> i64
         requires { node.0 < self.now.nodes }
         ensures { result ≡ «at» self.now.potentials node.0 }
     {
-        self.words[node.0 as usize]
+        self.region.get(&self.layout.words, node.0 as usize)
     }
 
     pub fn set_potential(&mut self, node: NodeId, potential: i64)
         requires { node.0 < self.old.nodes }
         ensures { self.new ≡ with_potential self.old node.0 potential }
     {
-        self.words[node.0 as usize] = potential;
+        self.region
+            .set(&self.layout.words, node.0 as usize, potential);
     }
 
     /// Whether the node is marked: after a search, whether the search reached it.
@@ -132,7 +132,7 @@ impl Work {
         requires { node.0 < self.now.nodes }
         ensures { result ≡ slice_index_or self.now.labels node.0 None }
     {
-        self.labels[node.0 as usize]
+        label_of(self.region.get(&self.layout.labels, node.0 as usize))
     }
 
     /// Labels the node, without a mark and without a search.
@@ -140,14 +140,15 @@ impl Work {
         requires { node.0 < self.old.nodes }
         ensures { self.new ≡ relabelled self.old node.0 step }
     {
-        self.labels[node.0 as usize] = Some(step);
+        self.region
+            .set(&self.layout.labels, node.0 as usize, word_of(step));
     }
 
     /// No node has a label, and the marks stay.
     pub fn clear_labels(&mut self)
         ensures { self.new ≡ unlabelled self.old }
     {
-        self.labels.as_mut_slice().fill(None);
+        self.region.fill(&self.layout.labels, 0);
     }
 
     pub fn walk_len(&self) -> usize
@@ -183,14 +184,14 @@ impl Work {
     pub fn flows(&self) -> &[i64]
         ensures { result.now ≡ self.now.flows }
     {
-        self.flows.as_slice()
+        self.region.words(&self.layout.flows)
     }
 
     /// The potentials, one for each node.
     pub fn potentials(&self) -> &[i64]
         ensures { result.now ≡ self.now.potentials }
     {
-        &self.words[..self.nodes]
+        &self.region.words(&self.layout.words)[..self.layout.nodes]
     }
 
     /// The marks of the reached nodes, one for each node.
@@ -212,7 +213,8 @@ impl Work {
         ensures words { length result.now ≡ 3 * self.old.nodes }
         ensures potentials { take self.old.nodes result.now ≡ self.old.potentials }
     {
-        self.words.as_mut_slice()
+        let words = self.layout.words;
+        self.region.words_mut(&words)
     }
 
     /// One of the words behind the potentials.
@@ -220,15 +222,15 @@ impl Work {
         requires { k < 2 * self.now.nodes }
         ensures { result ≡ «at» self.now.scratch k }
     {
-        self.words[self.nodes + k]
+        self.region.get(&self.layout.words, self.layout.nodes + k)
     }
 
     pub fn set_scratch(&mut self, k: usize, word: i64)
         requires { k < 2 * self.old.nodes }
         ensures { self.new ≡ with_scratch self.old k word }
     {
-        let place = self.nodes + k;
-        self.words[place] = word;
+        let place = self.layout.nodes + k;
+        self.region.set(&self.layout.words, place, word);
     }
 
     /// One of the words for a queue of nodes: two for each node, and one more.
@@ -236,14 +238,14 @@ impl Work {
         requires { k < 2 * self.now.nodes + 1 }
         ensures { result ≡ slice_index_or self.now.queue k 0 }
     {
-        self.queue[k]
+        index_of(self.region.get(&self.layout.queue, k))
     }
 
     pub fn set_queue(&mut self, k: usize, word: u32)
         requires { k < 2 * self.old.nodes + 1 }
         ensures { self.new ≡ with_queue self.old k word }
     {
-        self.queue[k] = word;
+        self.region.set(&self.layout.queue, k, i64::from(word));
     }
 
     /// Marks the node as reached, by no step.
@@ -261,7 +263,7 @@ impl Work {
         ensures { self.new ≡ begun self.old root.0 }
     {
         self.marks.as_mut_slice().fill(false);
-        self.labels.as_mut_slice().fill(None);
+        self.region.fill(&self.layout.labels, 0);
         self.walk.clear();
         self.marks[root.0 as usize] = true;
     }
@@ -273,7 +275,8 @@ impl Work {
         ensures { (room : length self.old.walk < self.old.nodes) → self.new ≡ with_reached self.old node.0 step room }
     {
         self.marks[node.0 as usize] = true;
-        self.labels[node.0 as usize] = Some(step);
+        self.region
+            .set(&self.layout.labels, node.0 as usize, word_of(step));
         self.push_step(step);
     }
 
