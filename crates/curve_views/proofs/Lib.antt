@@ -3,6 +3,7 @@ pub mod ReversedReadings
 pub mod FlatReadings
 pub mod FlowOf
 pub mod TurnedList
+pub mod TurnedCosts
 -- Levels:
 pub mod Staircase
 pub mod LevelWalks

@@ -93,3 +93,7 @@ item-ended items list ended i positive inside =
     let e : i ≡ suc (i - 1) = omega arith in
     subst (λ (k : ℕ). item (conjugate_items items) k ≡ slice_index_or items (i - 1) PlusInf) (sym e)
     (ended_of_shape (shape_by_place items list) ended (i - 1) (omega arith))
+
+-- and minus infinity stands in front of them
+pub first-ended : (items : List Ext) → IsCurveList items → is_finite (first items) ≡ true → item (conjugate_items items) 0 ≡ MinusInf
+first-ended items list ended = first_of_shape (shape_by_place items list) ended

@@ -6,8 +6,10 @@ ghost use Rattle.theory.specs.ViewLaws.{ConjugateTwiceLaw};
 ghost use Rattle.curve_views.specs.Turned.{turned_length};
 
 use crate::dual::dual_at;
-use mono_curve::{Listed, Monotone, Steps, domain_of, span_of};
-use std::sync::ledger::Ledger;
+use crate::turned::{listed_cost, turned_cost, turned_item};
+use mono_curve::{Curve, Listed, Looked, Monotone, Steps, domain_of, span_of};
+use std::marker::Brand;
+use std::sync::ledger::{Blank, Ledger};
 use theory::Ext;
 use theory::pricing::{clip_to, is_finite_end};
 
@@ -87,6 +89,50 @@ impl<'a, C: Listed> Listed for Conjugate<'a, C> {
     fn base(&self) -> i128 {
         let (low, high) = span_of(self.curve);
         dual_at(self.curve, clip_to(low, high, 0))
+    }
+
+    fn cost_here(&self, i: usize) -> i128 {
+        listed_cost::<C, Brand>(self.curve, i, Blank::new(1))
+    }
+}
+
+// ---- its looks
+
+/// A look is up to two at the curve below, an anchor up to four.
+impl<'a> Looked for Conjugate<'a, Curve> {
+    ghost use Rattle.std.proofs.Common.{lit≤};
+    ghost use Rattle.theory.proofs.ConjugateList.{conjugate-is_list};
+    ghost use Rattle.theory.proofs.ViewBounds.{conjugate_within, conjugate_short};
+    ghost use Rattle.mono_curve.specs.CurveFacts.{small_conjugate_base};
+
+    ghost listing = { λ s. conjugate_of s.curve.now.listing };
+
+    ghost weight = { λ s. 4 };
+
+    ghost is_list = { λ s. (conjugate-is_list s.curve.now.listing.items s.curve.now.valid.is_list).is_list };
+
+    ghost items_within = { λ s. conjugate_within s.curve.now.listing.items s.curve.now.valid.items_within };
+
+    ghost is_short = { λ s. conjugate_short s.curve.now.listing.items s.curve.now.valid.is_list s.curve.now.valid.items_within };
+
+    ghost base_within = { λ s. small_conjugate_base s.curve.now };
+
+    ghost weighs = { λ s. lit≤ tt };
+
+    fn len(&self) -> usize {
+        Listed::len(self)
+    }
+
+    fn base(&self) -> i128 {
+        Listed::base(self)
+    }
+
+    fn look<L: Ledger>(&self, i: usize, looks: &mut Steps<L>) -> Ext {
+        turned_item(self.curve, i, looks)
+    }
+
+    fn anchor<L: Ledger>(&self, i: usize, looks: &mut Steps<L>) -> i128 {
+        turned_cost(self.curve, i, looks)
     }
 }
 

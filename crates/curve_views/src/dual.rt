@@ -1,6 +1,6 @@
 // The conjugate cost of any listed curve: at a flow of the tension it is flow times tension less the
-// cost, by Fenchel's equality. One scan finds the flow, another prices it.
-ghost use Rattle.std.specs.Prelude.{◌≡◌, ◌↔◌, ℕ, ◌*◌, ◌^◌, ◌≤◌};
+// cost, by Fenchel's equality. One halving search finds the flow, another its cost.
+ghost use Rattle.std.specs.Prelude.{◌≡◌, ◌↔◌, ℕ, ◌*◌, ◌^◌, ◌<◌, ◌≤◌};
 ghost use Rattle.std.specs.Prelude.{ℤ, pos, ◌+ℤ◌, ◌-ℤ◌, ◌*ℤ◌, ◌≤ℤ◌};
 ghost use Rattle.theory.specs.declared.ext.Ext.{Ext as Item};
 ghost use Rattle.theory.specs.Domain.{InDomain};
@@ -14,7 +14,9 @@ ghost use Rattle.theory.specs.Limits.{number_most, IsWithin, flow_most};
 ghost use Rattle.mono_curve.specs.Halving.{IsTurn, count_from, is_item_below, is_item_up_to};
 ghost use Rattle.curve_views.specs.FlowBetween.{flow_between};
 
-use mono_curve::{Listed, cost_at};
+use mono_curve::{Listed, Steps, Uncounted, cost_at, count_below};
+use std::marker::Brand;
+use std::sync::ledger::{Blank, Ledger};
 use theory::Ext;
 use theory::pricing::precedes;
 
@@ -42,7 +44,7 @@ pub fn dual_at<C: Listed>(curve: &C, v: i64) -> i128
 }
 
 /// Flow times tension, less the cost.
-fn gain(flow: i64, tension: i64, cost: i128) -> i128
+pub(crate) fn gain(flow: i64, tension: i64, cost: i128) -> i128
     requires flow { IsWithin number_most flow }
     requires tension { IsWithin (2 * flow_most) tension }
     requires cost { IsWithin (10 ^ 28) cost }
@@ -86,12 +88,18 @@ fn range_of<C: Listed>(curve: &C, v: i64) -> (Ext, Ext)
 fn slopes_below<C: Listed>(curve: &C, v: i64) -> usize
     ensures { IsTurn (is_item_below (C.listing curve.now).items 1 (Item.At v)) (count_from (C.listing curve.now).items 1) result }
 {
-    for k in 0..curve.len() / 2 {
-        if !precedes(curve.item(2 * k + 1), Ext::At(v)) {
-            return k;
-        }
-    }
-    curve.len() / 2
+    searched::<C, Brand>(curve, v, Blank::new(1))
+}
+
+/// The same, with a counter that nobody reads.
+fn searched<C: Listed, L: Ledger>(curve: &C, v: i64, blank: Blank) -> usize
+    requires name { blank.name ≡ L.name }
+    requires parts { blank.parts ≡ L.parts }
+    requires some { 0 < blank.parts }
+    ensures { IsTurn (is_item_below (C.listing curve.now).items 1 (Item.At v)) (count_from (C.listing curve.now).items 1) result }
+{
+    let mut looks = Steps::<L>::open(blank);
+    count_below(&Uncounted::of(curve), 1, Ext::At(v), &mut looks)
 }
 
 /// How many are not above it: the next one too, where it is the tension itself.

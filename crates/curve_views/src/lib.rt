@@ -6,6 +6,7 @@ mod dual;
 mod ends;
 mod level;
 mod reversed;
+mod turned;
 mod zero_cost;
 
 pub use conjugate::Conjugate;
@@ -14,5 +15,7 @@ pub use level::Level;
 pub use reversed::Reversed;
 pub use zero_cost::ZeroCost;
 
+#[cfg(test)]
+mod price_tests;
 #[cfg(test)]
 mod tests;

@@ -4,7 +4,7 @@ ghost use Rattle.theory.specs.Views.{reversed_items, reversed_of};
 ghost use Rattle.theory.specs.ViewLaws.{ReversedTwiceLaw};
 
 use crate::ends::{opposite, opposite_end, opposite_ends};
-use mono_curve::{Listed, Monotone, Steps};
+use mono_curve::{Curve, Listed, Looked, Monotone, Steps};
 use std::sync::ledger::Ledger;
 use theory::Ext;
 
@@ -53,6 +53,47 @@ impl<'a, C: Listed> Listed for Reversed<'a, C> {
 
     fn base(&self) -> i128 {
         self.curve.base()
+    }
+
+    fn cost_here(&self, i: usize) -> i128 {
+        self.curve.cost_here(self.curve.len() - 1 - i)
+    }
+}
+
+impl<'a> Looked for Reversed<'a, Curve> {
+    ghost use Rattle.std.proofs.Common.{lit≤};
+    ghost use Rattle.theory.proofs.ReversedList.{reversed-is_list};
+    ghost use Rattle.theory.proofs.ViewBounds.{reversed_within, reversed_short};
+    ghost use Rattle.mono_curve.specs.CurveFacts.{small_base};
+
+    ghost listing = { λ s. reversed_of s.curve.now.listing };
+
+    ghost weight = { λ s. 4 };
+
+    ghost is_list = { λ s. reversed-is_list s.curve.now.listing.items s.curve.now.valid.is_list };
+
+    ghost items_within = { λ s. reversed_within s.curve.now.listing.items s.curve.now.valid.items_within };
+
+    ghost is_short = { λ s. reversed_short s.curve.now.listing.items s.curve.now.valid.is_list s.curve.now.valid.items_within };
+
+    ghost base_within = { λ s. small_base s.curve.now };
+
+    ghost weighs = { λ s. lit≤ tt };
+
+    fn len(&self) -> usize {
+        Listed::len(self.curve)
+    }
+
+    fn base(&self) -> i128 {
+        Listed::base(self.curve)
+    }
+
+    fn look<L: Ledger>(&self, i: usize, looks: &mut Steps<L>) -> Ext {
+        opposite_end(self.curve.look(Listed::len(self.curve) - 1 - i, looks))
+    }
+
+    fn anchor<L: Ledger>(&self, i: usize, looks: &mut Steps<L>) -> i128 {
+        self.curve.anchor(Listed::len(self.curve) - 1 - i, looks)
     }
 }
 

@@ -19,13 +19,13 @@ use Rattle.theory.specs.ReadingLaws.{SlopesOfPiecesLaw}
 use Rattle.mono_curve.proofs.Stairs.{finite_is, later_not_below, earlier_not_above}
 use Rattle.mono_curve.proofs.ReadOff.{IsPair, past_below, before_above, least_not_above, most_not_below, first_finite, last_finite, slope_finite, pair_of_curve, curve_of_pair, later_point, earlier_point, clash, last_is, not_above_least, not_below_most}
 
-not_below_self : (e : Ext) → is_below e e ≡ false
+pub not_below_self : (e : Ext) → is_below e e ≡ false
 not_below_self MinusInf = refl
 not_below_self (At a) = grind (arith, ints)
 not_below_self PlusInf = refl
 
 -- the slope of a piece that reaches from under the flow, or at it, to the flow or over it
-slope_pairs : (items : List Ext) → IsCurveList items → (x : Ext) (k : ℕ) → k < length items / 2 → is_below x (item items (2 * k)) ≡ false → is_below (item items (2 * k + 2)) x ≡ false → IsPair items x (item items (2 * k + 1))
+pub slope_pairs : (items : List Ext) → IsCurveList items → (x : Ext) (k : ℕ) → k < length items / 2 → is_below x (item items (2 * k)) ≡ false → is_below (item items (2 * k + 2)) x ≡ false → IsPair items x (item items (2 * k + 1))
 slope_pairs items list x k inside begun not_ended =
     let place : 2 * (k + 1) ≡ 2 * k + 2 = omega arith in
     let ending : is_below (item items (2 * (k + 1))) x ≡ false = rw place not_ended in

@@ -106,6 +106,16 @@ above_nothing MinusInf = refl
 above_nothing (At a) = refl
 above_nothing PlusInf = refl
 
+pub minus_unless_plus : (e : Ext) → is_finite e ≡ false → (e ≡ PlusInf → ⊥) → e ≡ MinusInf
+minus_unless_plus MinusInf h other = refl
+minus_unless_plus (At a) h other = cc
+minus_unless_plus PlusInf h other = absurd (other refl)
+
+pub plus_unless_minus : (e : Ext) → is_finite e ≡ false → (e ≡ MinusInf → ⊥) → e ≡ PlusInf
+plus_unless_minus MinusInf h other = absurd (other refl)
+plus_unless_minus (At a) h other = cc
+plus_unless_minus PlusInf h other = refl
+
 pub clash : {b : Bool} → b ≡ true → b ≡ false → ⊥
 clash g h = cc
 
@@ -132,10 +142,10 @@ slope_finite items list k h = list.inner_finite (2 * k + 1) (omega arith) (omega
 single_is : (items : List Ext) → IsCurveList items → (e : Ext) → is_finite e ≡ false → length items ≡ 1 → item items 0 ≡ e → ⊥
 single_is items list e infinite one same = let h = rw same at (list.single_finite one) in cc
 
-first_not_plus : (items : List Ext) → IsCurveList items → item items 0 ≡ PlusInf → ⊥
+pub first_not_plus : (items : List Ext) → IsCurveList items → item items 0 ≡ PlusInf → ⊥
 first_not_plus items list e = elim (cases_lt 0 (length items / 2)) [ inl more ↦ first_finite items list 0 more e | inr none ↦ single_is items list PlusInf refl (omega (arith, list.odd)) e ]
 
-last_not_minus : (items : List Ext) → IsCurveList items → item items (2 * (length items / 2)) ≡ MinusInf → ⊥
+pub last_not_minus : (items : List Ext) → IsCurveList items → item items (2 * (length items / 2)) ≡ MinusInf → ⊥
 last_not_minus items list e = elim (cases_lt 0 (length items / 2)) [
   | inl more ↦ (let at_end : 2 * (length items / 2 - 1) + 2 ≡ 2 * (length items / 2) = omega arith in last_finite items list (length items / 2 - 1) (omega arith) (rw at_end e))
   | inr none ↦ (let at_start : 2 * (length items / 2) ≡ 0 = omega arith in single_is items list MinusInf refl (omega (arith, list.odd)) (rw at_start at e))
@@ -167,10 +177,10 @@ curve_of_pair items x v list pair =
 
 -- ---- places of points: `2 * j + 0` is `2 * j`
 
-point_below : (items : List Ext) (e : Ext) (k : ℕ) → IsTurn (is_item_below items 0 e) (count_from items 0) k → (j : ℕ) → j < k → IsBelow (item items (2 * j)) e
+pub point_below : (items : List Ext) (e : Ext) (k : ℕ) → IsTurn (is_item_below items 0 e) (count_from items 0) k → (j : ℕ) → j < k → IsBelow (item items (2 * j)) e
 point_below items e k turn j h = let place : 2 * j + 0 ≡ 2 * j = omega arith in rw place at (turn.before j h)
 
-point_not_below : (items : List Ext) (e : Ext) (k : ℕ) → IsCurveList items → IsTurn (is_item_below items 0 e) (count_from items 0) k → (j : ℕ) → k ≤ j → j ≤ length items / 2 → is_below (item items (2 * j)) e ≡ false
+pub point_not_below : (items : List Ext) (e : Ext) (k : ℕ) → IsCurveList items → IsTurn (is_item_below items 0 e) (count_from items 0) k → (j : ℕ) → k ≤ j → j ≤ length items / 2 → is_below (item items (2 * j)) e ≡ false
 point_not_below items e k list turn j h inside = let place : 2 * j + 0 ≡ 2 * j = omega arith in rw place at (turn.after j h (omega (arith, list.odd)))
 
 point_not_above : (items : List Ext) (e : Ext) (k : ℕ) → IsTurn (is_item_up_to items 0 e) (count_from items 0) k → (j : ℕ) → j < k → is_below e (item items (2 * j)) ≡ false
@@ -318,20 +328,10 @@ module _ (items : List Ext) (list : IsCurveList items) (x v : Ext) where
       turn_below k inside flat = elim (cases_lt k i) [ inl less ↦ omega arith | inr more ↦ absurd (clash flat (below.after k more (omega arith))) ]
 
 not_finite_first : (items : List Ext) → IsCurveList items → is_finite (first items) ≡ false → first items ≡ MinusInf
-not_finite_first items list endless = infinite_first (first items) endless (λ plus. first_not_plus items list (first_at items ∙ plus))
-  where
-    infinite_first : (e : Ext) → is_finite e ≡ false → (e ≡ PlusInf → ⊥) → e ≡ MinusInf
-    infinite_first MinusInf h other = refl
-    infinite_first (At a) h other = cc
-    infinite_first PlusInf h other = absurd (other refl)
+not_finite_first items list endless = minus_unless_plus (first items) endless (λ plus. first_not_plus items list (first_at items ∙ plus))
 
 not_finite_last : (items : List Ext) → IsCurveList items → is_finite (last items) ≡ false → last items ≡ PlusInf
-not_finite_last items list endless = infinite_last (last items) endless (λ minus. last_not_minus items list (last_is items list ∙ minus))
-  where
-    infinite_last : (e : Ext) → is_finite e ≡ false → (e ≡ MinusInf → ⊥) → e ≡ PlusInf
-    infinite_last MinusInf h other = absurd (other refl)
-    infinite_last (At a) h other = cc
-    infinite_last PlusInf h other = refl
+not_finite_last items list endless = plus_unless_minus (last items) endless (λ minus. last_not_minus items list (last_is items list ∙ minus))
 
 -- a tension outside the span, on either side, and what the list is then
 record IsUnderSpan (items : List Ext) (v : Ext) : Type 0 where

@@ -28,7 +28,7 @@ pub not_false : (b : Bool) → not b ≡ false → b ≡ true
 not_false true h = refl
 not_false false h = cc
 
-same_unless_below : (d e : Ext) → is_below d e ≡ false → is_below e d ≡ false → d ≡ e
+pub same_unless_below : (d e : Ext) → is_below d e ≡ false → is_below e d ≡ false → d ≡ e
 same_unless_below MinusInf MinusInf g h = refl
 same_unless_below MinusInf (At b) g h = cc
 same_unless_below MinusInf PlusInf g h = cc

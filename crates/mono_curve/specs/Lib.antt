@@ -5,3 +5,5 @@ pub mod Faults
 -- Readings, their count and how they are found:
 pub mod Counted
 pub mod Halving
+-- Costs at points:
+pub mod PointCosts

@@ -2,23 +2,27 @@
 ghost use Rattle.std.specs.Prelude.{◌≡◌, ◌≤◌, ◌*◌, IfOk, IfErr, length};
 ghost use Rattle.theory.specs.Limits.{base_most, items_most, IsWithin};
 ghost use Rattle.mono_curve.specs.CurveValue.{IsValidCurve};
+ghost use Rattle.mono_curve.specs.PointCosts.{AreKept};
 
 use crate::fault::CurveFault;
 use crate::listed::Listed;
+use crate::looked::Looked;
 use crate::monotone::Monotone;
 use crate::steps::Steps;
-use crate::{faults, halving};
+use crate::{faults, halving, kept};
 use std::alloc::{AllocError, Global};
 use std::marker::Model;
 use std::sync::ledger::Ledger;
 use theory::{Ext, pricing};
 
-/// A curve by its list of breakpoints and slopes.
+/// A curve by its list of breakpoints and slopes. Beside each finite point it keeps the cost there.
 #[derive(Drop)]
 pub struct Curve {
     items: Vec<Ext>,
+    costs: Vec<i64>,
     base: i128,
     ghost valid: { IsValidCurve (record { items = items.items; base = base }) },
+    ghost kept: { AreKept items.items costs.items },
 }
 
 impl Model for Curve {
@@ -40,27 +44,35 @@ impl Curve {
     {
         faults::check(items, base)?;
         let kept = items.to_vec(alloc).map_err(|_| CurveFault::NoMemory)?;
-        Ok(Curve { items: kept, base })
+        with_costs(alloc, kept, base).map_err(|_| CurveFault::NoMemory)
     }
 
-    /// The curve of a list that was tested before. It keeps the list itself and copies nothing.
+    /// The curve of a list that was tested before. It keeps the list itself and copies nothing. Where
+    /// there is no memory for the costs at its points it goes without them, and finds each by all
+    /// pieces.
     pub fn of_tested(items: Vec<Ext>, base: i128) -> Curve
         requires { IsValidCurve (record { items = items.items; base = base }) }
         ensures { result.listing ≡ record { items = items.items; base = base } }
     {
-        Curve { items, base }
+        let costs = kept::costs_if_room(*items.allocator(), &items);
+        Curve { items, costs, base }
     }
 
     /// The curve once more, its list copied in one piece.
     pub fn copy(&self, alloc: Global) -> Result<Curve, AllocError>
         ensures { IfOk result (λ c. c.listing ≡ self.now.listing) }
     {
-        let items = Vec::from_slice(alloc, &self.items)?;
-        Ok(Curve {
-            items,
-            base: self.base,
-        })
+        with_costs(alloc, Vec::from_slice(alloc, &self.items)?, self.base)
     }
+}
+
+/// The curve of a valid list, with its costs.
+fn with_costs(alloc: Global, items: Vec<Ext>, base: i128) -> Result<Curve, AllocError>
+    requires { IsValidCurve (record { items = items.items; base = base }) }
+    ensures { IfOk result (λ c. c.listing ≡ record { items = items.items; base = base }) }
+{
+    let costs = kept::costs_of(alloc, &items)?;
+    Ok(Curve { items, costs, base })
 }
 
 /// The curve with the list and base of another.
@@ -73,10 +85,7 @@ pub fn to_curve<C: Listed>(alloc: Global, curve: &C) -> Result<Curve, AllocError
     for k in 0..curve.len() {
         items.push(curve.item(k))?;
     }
-    Ok(Curve {
-        items,
-        base: curve.base(),
-    })
+    with_costs(alloc, items, curve.base())
 }
 
 impl Listed for Curve {
@@ -104,6 +113,47 @@ impl Listed for Curve {
 
     fn base(&self) -> i128 {
         self.base
+    }
+
+    fn cost_here(&self, i: usize) -> i128 {
+        self.base + i128::from(kept::cost_at_point(&self.items, &self.costs, i))
+    }
+}
+
+impl Looked for Curve {
+    ghost use Rattle.std.proofs.Common.{lit≤};
+    ghost use Rattle.mono_curve.specs.CurveFacts.{short_list, small_base};
+
+    ghost listing = { λ c. c.listing };
+
+    ghost weight = { λ c. 1 };
+
+    ghost is_list = { λ c. c.valid.is_list };
+
+    ghost items_within = { λ c. c.valid.items_within };
+
+    ghost is_short = { λ c. short_list c };
+
+    ghost base_within = { λ c. small_base c };
+
+    ghost weighs = { λ c. lit≤ tt };
+
+    fn len(&self) -> usize {
+        self.items.len()
+    }
+
+    fn base(&self) -> i128 {
+        self.base
+    }
+
+    fn look<L: Ledger>(&self, i: usize, looks: &mut Steps<L>) -> Ext {
+        looks.tick();
+        self.items[i]
+    }
+
+    fn anchor<L: Ledger>(&self, i: usize, looks: &mut Steps<L>) -> i128 {
+        looks.tick();
+        self.cost_here(i)
     }
 }
 

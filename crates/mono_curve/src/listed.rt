@@ -3,6 +3,7 @@ ghost use Rattle.std.specs.Prelude.{◌≡◌, ◌+◌, ◌*◌, ◌<◌, ◌≤
 ghost use Rattle.theory.specs.CurveList.{IsCurveList, Listing, item};
 ghost use Rattle.theory.specs.Limits.{AreWithin, number_most, base_most, IsWithin};
 ghost use Rattle.theory.specs.Views.{conjugate_of};
+ghost use Rattle.mono_curve.specs.PointCosts.{IsFinitePoint, point_cost};
 
 use theory::Ext;
 
@@ -20,6 +21,11 @@ pub trait Listed {
 
     fn base(&self) -> i128
         ensures { result ≡ (listing self.now).base };
+
+    /// The cost at a finite point.
+    fn cost_here(&self, i: usize) -> i128
+        requires { IsFinitePoint (listing self.now).items i }
+        ensures { result ≡ point_cost (listing self.now) i };
 
     ghost is_list: { (c : Self) → IsCurveList (listing c).items };
 

@@ -3,7 +3,7 @@ ghost use Rattle.std.specs.Prelude.{◌≡◌, ℕ, ◌↔◌, ◌*◌, ◌/◌,
 ghost use Rattle.std.specs.Prelude.{ℤ, pos, ◌+ℤ◌, ◌*ℤ◌, ◌≤ℤ◌};
 ghost use Rattle.theory.specs.CurveList.{first, last};
 ghost use Rattle.theory.specs.Domain.{InDomain};
-ghost use Rattle.theory.specs.Cost.{cost, rise};
+ghost use Rattle.theory.specs.Cost.{cost};
 ghost use Rattle.theory.specs.Span.{InSpan, span_low, span_high};
 ghost use Rattle.theory.specs.ConjugateCost.{conjugate_cost};
 ghost use Rattle.theory.specs.OnCurve.{FitsPiece, IsOnCurve};
@@ -11,8 +11,13 @@ ghost use Rattle.theory.specs.PieceAt.{piece_at};
 ghost use Rattle.theory.specs.Limits.{IsWithin, flow_most};
 
 use crate::listed::Listed;
+use crate::looked::Uncounted;
+use crate::piece_price::price;
+use crate::steps::Steps;
+use std::marker::Brand;
+use std::sync::ledger::{Blank, Ledger};
 use theory::Ext;
-use theory::pricing::{clip_to, fits_piece, is_between, is_finite_end, rise_of};
+use theory::pricing::{fits_piece, is_between, is_finite_end};
 
 /// The ends of the domain.
 pub fn domain_of<C: Listed>(curve: &C) -> (Ext, Ext)
@@ -81,24 +86,19 @@ pub fn cost_at<C: Listed>(curve: &C, x: i64) -> i128
     ensures fenchel { (q : ℕ) (w : ℤ) → 1 ≤ q → InSpan q (C.listing curve.now).items w
         → (x *ℤ w) ≤ℤ (pos q *ℤ result +ℤ conjugate_cost q (C.listing curve.now) w) }
 {
-    let (low, high) = domain_of(curve);
-    let rest = clip_to(low, high, 0);
-    let mut total = curve.base();
-    for k in 0..curve.len() / 2 {
-        total += rise_at(curve, k, rest, x);
-    }
-    total
+    priced::<C, Brand>(curve, x, Blank::new(1))
 }
 
-fn rise_at<C: Listed>(curve: &C, k: usize, from: i64, to: i64) -> i128
-    requires { k < length (C.listing curve.now).items / 2 }
-    ensures { result ≡ rise 1 from to (piece_at (C.listing curve.now).items k) }
+/// The same, with a counter that nobody reads.
+fn priced<C: Listed, L: Ledger>(curve: &C, x: i64, blank: Blank) -> i128
+    requires name { blank.name ≡ L.name }
+    requires parts { blank.parts ≡ L.parts }
+    requires some { 0 < blank.parts }
+    requires inside { InDomain 1 (C.listing curve.now).items x }
+    requires flow_within { IsWithin (2 * flow_most) x }
+    ensures value { result ≡ cost 1 (C.listing curve.now) x }
+    ensures within { IsWithin (10 ^ 28) result }
 {
-    rise_of(
-        curve.item(2 * k),
-        curve.item(2 * k + 1),
-        curve.item(2 * k + 2),
-        from,
-        to,
-    )
+    let mut looks = Steps::<L>::open(blank);
+    price(&Uncounted::of(curve), x, &mut looks)
 }

@@ -1,10 +1,11 @@
 // Curves worked by hand: the cost and every reading, and each fault with its text.
-ghost use Rattle.std.specs.Prelude.{◌≡◌, ◌↔◌, ◌<◌, IsTrue};
-ghost use Rattle.theory.specs.Limits.{arg_most, IsWithin};
+ghost use Rattle.std.specs.Prelude.{◌≡◌, ◌↔◌, ◌+◌, ◌^◌, ◌<◌, ◌≤◌, IsTrue, length};
+ghost use Rattle.theory.specs.Domain.{InDomain};
+ghost use Rattle.theory.specs.Limits.{arg_most, flow_most, IsWithin};
 
 use crate::{
     ARG_MOST, BASE_MOST, Curve, CurveFault, FLOW_MOST, Listed, Monotone, Steps, cost_at, domain_of,
-    on_curve, span_of, to_curve,
+    on_curve, price, span_of, to_curve,
 };
 use std::alloc::Global;
 use std::marker::Brand;
@@ -264,6 +265,61 @@ fn compare(rt: &impl Abort, alloc: Global, row: &Row) -> Result<(), Fail> {
     assert_eq!(rt; domain_of(&kept), row.domain);
     assert_eq!(rt; span_of(&kept), row.span);
     Ok(())
+}
+
+// ---- by looks
+
+/// A list of fewer than 2 ^ 12 items takes 20 looks at most.
+fn price_by_few_looks<L: Ledger>(curve: &Curve, flow: i64, looks: &mut Steps<L>) -> i128
+    requires short { length curve.now.listing.items < 2 ^ 12 }
+    requires inside { InDomain 1 curve.now.listing.items flow }
+    requires small { IsWithin flow_most flow }
+    ensures counted { looks.new ≤ looks.old + 20 }
+{
+    price(curve, flow, looks)
+}
+
+fn price_inside<L: Ledger>(curve: &Curve, flow: i64, blank: Blank) -> Option<i128>
+    requires name { blank.name ≡ L.name }
+    requires parts { blank.parts ≡ L.parts }
+    requires some { 0 < blank.parts }
+{
+    let mut looks = Steps::<L>::open(blank);
+    let (low, high) = domain_of(curve);
+    let small = -FLOW_MOST <= flow && flow <= FLOW_MOST;
+    if Listed::len(curve) < 4096 && small && is_between(low, high, flow) {
+        Some(price_by_few_looks(curve, flow, &mut looks))
+    } else {
+        None
+    }
+}
+
+fn compare_price(
+    rt: &impl Abort,
+    alloc: Global,
+    items: &[Ext],
+    flow: i64,
+    want: i128,
+) -> Result<(), Fail> {
+    let curve = Curve::of_list(alloc, items, 0)?;
+    let priced = price_inside::<Brand>(&curve, flow, Blank::new(1));
+    assert_eq!(rt; priced, Some(want), "of {:?} at {}", items, flow);
+    Ok(())
+}
+
+#[test]
+fn prices(rt: HostRuntime) -> Result<(), Fail> {
+    let line = [MinusInf, At(3), PlusInf];
+    compare_price(&rt, rt.alloc(), BENT.items, 5, 13)?;
+    compare_price(&rt, rt.alloc(), &line, -4, -12)?;
+    let mut parabola = Vec::new(rt.alloc());
+    for number in -2000..2001 {
+        parabola.push(At(number))?;
+    }
+    // Half the square of the flow, at even flows.
+    compare_price(&rt, rt.alloc(), &parabola, 0, 0)?;
+    compare_price(&rt, rt.alloc(), &parabola, 1000, 500_000)?;
+    compare_price(&rt, rt.alloc(), &parabola, -1999, 1_998_001)
 }
 
 const LARGE: i128 = BASE_MOST + 1;
