@@ -68,19 +68,9 @@ impl Lanes {
         self.numbers.set(arc, NONE);
     }
 
-    /// Gives the lane to the arc, and takes the slopes at the arc's flow.
-    pub(crate) fn open<C: Monotone, L: Ledger>(
-        &mut self,
-        lane: u32,
-        arc: u32,
-        ends: (u32, u32),
-        feed: &mut Feed<C>,
-        steps: &mut Steps<L>,
-    ) -> Ends
-        ensures { IsSpent feed.old.fuel steps.old feed.new.fuel steps.new }
-    {
+    /// Gives the lane to the arc, with the slopes at the arc's flow.
+    pub(crate) fn open(&mut self, lane: u32, arc: u32, ends: (u32, u32), slopes: Ends) {
         let (from, to) = ends;
-        let slopes = feed.slopes(arc, self.flows.at(arc), steps);
         self.arcs.set(lane, arc);
         self.numbers.set(arc, lane);
         self.lanes.set(
@@ -92,7 +82,6 @@ impl Lanes {
                 right: slopes.high,
             },
         );
-        slopes
     }
 
     /// Puts the lane at a flow, out of the tree.

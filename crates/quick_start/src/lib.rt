@@ -7,6 +7,7 @@ mod hanging;
 mod lanes;
 mod pivoting;
 mod pricing;
+mod resuming;
 mod setting;
 mod sketch;
 mod tables;

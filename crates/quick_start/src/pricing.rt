@@ -1,6 +1,7 @@
 // Which lane enters, and what artificial flow costs.
+use crate::feed::Ends;
 use crate::lanes::{Lane, Lanes};
-use crate::tables::NONE;
+use crate::tables::{FAR, NONE, minus};
 use mono_curve::NUMBER_MOST;
 
 /// The penalty of artificial flow, the gain that a lane has to have, and where pricing goes on.
@@ -22,6 +23,43 @@ pub(crate) struct Choice {
     pub(crate) looks: u64,
 }
 
+/// The finite slopes that were met, without their signs.
+#[derive(Clone, Copy)]
+pub(crate) struct Slopes {
+    sum: i64,
+    count: i64,
+}
+
+impl Slopes {
+    pub(crate) fn none() -> Slopes {
+        Slopes { sum: 0, count: 0 }
+    }
+
+    /// With these two more, of which infinite ones don't count.
+    pub(crate) fn and(self, more: Ends) -> Slopes {
+        self.and_one(more.low).and_one(more.high)
+    }
+
+    fn and_one(self, slope: i64) -> Slopes {
+        if slope <= -FAR || slope >= FAR {
+            return self;
+        }
+        let size = if slope < 0 { minus(slope) } else { slope };
+        Slopes {
+            sum: self.sum.wrapping_add(size),
+            count: self.count.wrapping_add(1),
+        }
+    }
+
+    fn mean(self) -> i64 {
+        if self.count > 0 {
+            self.sum / self.count
+        } else {
+            0
+        }
+    }
+}
+
 impl Prices {
     pub(crate) fn new() -> Prices {
         Prices {
@@ -33,15 +71,11 @@ impl Prices {
         }
     }
 
-    /// Begins with the mean of the finite slopes, by their sum and number: a low penalty lets the first pivots follow the
-    /// costs. At the greatest one the potentials of the two kinds of nodes, those whose excess stays and those that lack
+    /// Begins with the mean of the slopes: a low penalty lets the first pivots follow the costs. At the greatest one the potentials of the two kinds of nodes, those whose excess stays and those that lack
     /// flow, are further apart than half of it, since ways through the net differ by at most a quarter.
-    pub(crate) fn begin(&mut self, nodes: u32, lanes: u32, sum: i64, slopes: i64) {
-        let mean = if slopes > 0 { sum / slopes } else { 0 };
-        self.most = (NUMBER_MOST + 1)
-            .wrapping_mul(4)
-            .wrapping_mul(i64::from(nodes).wrapping_add(1));
-        self.begin_at(mean.wrapping_add(1));
+    pub(crate) fn begin(&mut self, nodes: u32, lanes: u32, slopes: Slopes) {
+        self.most = dearest_way(nodes).wrapping_mul(4);
+        self.begin_at(slopes.mean().wrapping_add(1));
         self.block = root_of(lanes).wrapping_mul(2).max(10);
         self.place = 0;
     }
@@ -100,6 +134,11 @@ impl Prices {
         }
         best
     }
+}
+
+/// No way through a net of this many nodes costs more.
+pub(crate) fn dearest_way(nodes: u32) -> i64 {
+    (NUMBER_MOST + 1).wrapping_mul(i64::from(nodes).wrapping_add(1))
 }
 
 /// The better of a choice and the best of these lanes, which are numbered from the first.

@@ -3,7 +3,7 @@
 ghost use Rattle.quick_start.specs.Spent.{IsSpent};
 
 use crate::feed::{Ends, Feed};
-use crate::pricing::root_of;
+use crate::pricing::{Slopes, root_of};
 use crate::sketch::Sketch;
 use crate::tables::{FAR, NONE, minus};
 use crate::tree::{Bond, Twig};
@@ -28,12 +28,13 @@ impl Sketch {
     }
 
     /// Nothing is known of what the tables held before.
-    fn clear(&mut self, net: &Net) {
+    pub(crate) fn clear(&mut self, net: &Net) {
         let nodes = net.nodes() as u32;
         self.nodes = nodes;
         self.tree.clear(nodes);
         for node in 0..nodes {
             self.excess.set(node, 0);
+            self.tree.potentials.set(node, 0);
         }
     }
 
@@ -59,13 +60,18 @@ impl Sketch {
                 self.movable.set(count, arc);
                 count = count.wrapping_add(1);
             }
-            self.lanes.leave_out(arc);
-            self.lanes.flows.set(arc, flow);
-            let (from, to) = ends_of(net, arc);
-            self.add_excess(to, flow);
-            self.add_excess(from, minus(flow));
+            self.begin_with(net, arc, flow);
         }
         count
+    }
+
+    /// Gives the arc its first flow, and no lane.
+    pub(crate) fn begin_with(&mut self, net: &Net, arc: u32, flow: i64) {
+        self.lanes.leave_out(arc);
+        self.lanes.flows.set(arc, flow);
+        let (from, to) = ends_of(net, arc);
+        self.add_excess(to, flow);
+        self.add_excess(from, minus(flow));
     }
 
     fn add_excess(&mut self, node: u32, flow: i64) {
@@ -86,28 +92,24 @@ impl Sketch {
     {
         let stride = root_of(count).wrapping_add(1);
         let (mut place, mut begin) = (0u32, 0u32);
-        let (mut sum, mut finite) = (0i64, 0i64);
+        let mut met = Slopes::none();
         self.lanes.count = count;
         for lane in 0..count {
             let arc = self.movable.at(place);
-            let ends = ends_of(net, arc);
-            let slopes = self.lanes.open(lane, arc, ends, feed, steps);
-            for slope in [slopes.low, slopes.high] {
-                if -FAR < slope && slope < FAR {
-                    sum = sum.wrapping_add(if slope < 0 { minus(slope) } else { slope });
-                    finite = finite.wrapping_add(1);
-                }
-            }
+            let slopes = feed.slopes(arc, self.lanes.flows.at(arc), steps);
+            self.lanes.open(lane, arc, ends_of(net, arc), slopes);
+            met = met.and(slopes);
             place = place.wrapping_add(stride);
             if place >= count {
                 begin = begin.wrapping_add(1);
                 place = begin;
             }
         }
-        self.prices.begin(self.nodes, count, sum, finite);
+        self.prices.begin(self.nodes, count, met);
     }
 
-    /// Hangs the node on the root, by an artificial arc that takes its excess there or brings what it lacks.
+    /// Hangs the node on the root, by an artificial arc that takes its excess there or brings what it lacks. It costs what the
+    /// potential says, and the penalty in the second case.
     pub(crate) fn hang_on_root(&mut self, node: u32) {
         let excess = self.excess.at(node);
         let up = excess >= 0;
@@ -119,7 +121,9 @@ impl Sketch {
             low,
             high,
         };
-        let potential = if up { 0 } else { self.prices.penalty };
+        let given = self.tree.potentials.at(node);
+        let lift = if up { 0 } else { self.prices.penalty };
+        let potential = given.wrapping_add(lift);
         self.tree
             .plant(node, twig, Bond { lane: NONE, up }, potential);
     }
@@ -136,7 +140,7 @@ fn nearest_zero(ends: Ends) -> i64 {
 }
 
 /// The numbers of the nodes that an arc leaves and enters.
-fn ends_of(net: &Net, arc: u32) -> (u32, u32) {
+pub(crate) fn ends_of(net: &Net, arc: u32) -> (u32, u32) {
     if (arc as usize) < net.arcs() {
         (net.from(ArcId(arc)).0, net.to(ArcId(arc)).0)
     } else {

@@ -65,6 +65,8 @@ pub struct Sketch {
     pub(crate) settled: Table<bool>,
     pub(crate) ways: Table<Way>,
     pub(crate) order: Table<u32>,
+    // Whether the flow of an arc can move without a change of potentials.
+    pub(crate) tight: Table<bool>,
 }
 
 /// The least fuel that a pivot begins with.
@@ -88,6 +90,7 @@ impl Sketch {
             settled: Table::take(alloc, nodes, false)?,
             ways: Table::take(alloc, nodes, nowhere)?,
             order: Table::take(alloc, nodes, 0)?,
+            tight: Table::take(alloc, arcs, false)?,
         })
     }
 
@@ -116,7 +119,7 @@ impl Sketch {
         let mut feed = Feed::new(curves, fuel);
         self.set_out(net, &mut feed, steps);
         let proposal = self.improve(&mut feed, steps);
-        self.hand_over(work);
+        self.hand_over(proposal, work);
         proposal
     }
 
@@ -200,13 +203,25 @@ impl Sketch {
         pivots % often == 0 && !self.tree.has_artificial_flow()
     }
 
-    fn hand_over(&mut self, work: &mut Work)
+    /// Marks the nodes, and then writes flows and potentials. Those of a cut are made fit for a further draw.
+    pub(crate) fn hand_over(&mut self, proposal: Proposal, work: &mut Work)
         ensures flows { AreDrawn work.new.flows }
         ensures potentials { AreDrawn work.new.potentials }
         ensures labels { work.new.labels ≡ replicate work.new.nodes None }
         ensures walk { work.new.walk ≡ [] }
         ensures same { IsSameRoom work.old work.new }
     {
+        let border = mark_low(&self.tree.potentials, self.prices.penalty / 2, work);
+        if proposal == Proposal::Cut {
+            self.close_gap(border);
+        }
+        self.collect_flows();
+        write_flows(&self.lanes.flows, work);
+        write_potentials(&self.tree.potentials, work);
+    }
+
+    /// Takes the flows of the tree's lanes over.
+    fn collect_flows(&mut self) {
         for node in 0..self.nodes {
             let lane = self.tree.bond(node).lane;
             if lane != NONE {
@@ -215,8 +230,5 @@ impl Sketch {
                 self.lanes.flows.set(arc, flow);
             }
         }
-        write_flows(&self.lanes.flows, work);
-        write_potentials(&self.tree.potentials, work);
-        mark_low(&self.tree.potentials, self.prices.penalty / 2, work);
     }
 }

@@ -108,20 +108,59 @@ fn drawn<L: Ledger>(
     let mut work = Work::take(rt.alloc(), nodes, arcs)?;
     let mut sketch = Sketch::take(rt.alloc(), nodes, arcs)?;
     let proposal = sketch.draw(&net, curves, fuel, &mut work, &mut steps);
-    assert!(rt; work.marks().len() == nodes);
-    let holds = match proposal {
+    Ok((proposal, is_so(rt, &net, curves, &work, proposal)))
+}
+
+/// Whether the room holds what was proposed.
+fn is_so(rt: &impl Abort, net: &Net, curves: &[Curve], work: &Work, proposal: Proposal) -> bool {
+    assert!(rt; work.marks().len() == net.nodes() && curves.len() == net.arcs());
+    match proposal {
         Proposal::Pair => {
-            is_conserved(rt, &net, &work) && are_on_curves(rt, &net, curves, &work, true)
+            is_conserved(rt, net, work) && are_on_curves(rt, net, curves, work, true)
         }
         Proposal::Cut => match net.cut_sum(curves, work.marks()) {
             Sum::Whole(sum) => sum < 0,
             Sum::Endless(_) => false,
         },
         Proposal::Flow => {
-            is_conserved(rt, &net, &work) && are_on_curves(rt, &net, curves, &work, false)
+            is_conserved(rt, net, work) && are_on_curves(rt, net, curves, work, false)
         }
-    };
-    Ok((proposal, holds))
+    }
+}
+
+/// The same of a second draw in the same sketch, one that begins with these flows and potentials.
+fn redrawn<L: Ledger>(
+    rt: &(impl Abort + AllocGlobal),
+    rows: &[Row],
+    flows: [i64; 3],
+    potentials: [i64; 2],
+    blank: Blank,
+) -> Result<(Proposal, bool), Fail>
+    requires name { blank.name ≡ L.name }
+    requires parts { blank.parts ≡ L.parts }
+    requires some { 0 < blank.parts }
+{
+    let mut steps = Steps::<L>::open(blank);
+    let net = net_of(rt, 2, rows)?;
+    let curves = curves_of(rt, rows)?;
+    let curves = curves.as_slice();
+    let (nodes, arcs) = (net.nodes(), net.arcs());
+    assert!(rt; 1 <= nodes && nodes <= 99 && arcs <= 99 && curves.len() == arcs);
+    let mut work = Work::take(rt.alloc(), nodes, arcs)?;
+    let mut sketch = Sketch::take(rt.alloc(), nodes, arcs)?;
+    let _ = sketch.draw(&net, curves, 1000, &mut work, &mut steps);
+    for (arc, flow) in [0, 1, 2].into_iter().zip(flows) {
+        assert!(rt; (arc as usize) < work.arcs());
+        work.set_flow(ArcId(arc), flow);
+    }
+    for (node, potential) in [0, 1].into_iter().zip(potentials) {
+        assert!(rt; (node as usize) < work.nodes());
+        work.set_potential(NodeId(node), potential);
+    }
+    assert!(rt; work.nodes() == nodes);
+    assert!(rt; work.arcs() == arcs);
+    let proposal = sketch.redraw(&net, curves, 1000, &mut work, &mut steps);
+    Ok((proposal, is_so(rt, &net, curves, &work, proposal)))
 }
 
 #[test]
@@ -218,6 +257,35 @@ fn draws(rt: HostRuntime) -> Result<(), Fail> {
     ] {
         let found = drawn::<Brand>(&rt, nodes, rows, fuel, Blank::new(1))?;
         assert_eq!(rt; found, wanted, "for {rows:?}");
+    }
+    Ok(())
+}
+
+#[test]
+fn draws_again(rt: HostRuntime) -> Result<(), Fail> {
+    // A flow that is forced, and two ways back. With 3 units, prices of 1 and 2 and room for 9 each, all go back for 1.
+    let (flows, potentials) = ([3, 3, 0], [0, -1]);
+    for (forced, cheap, dear, flows, potentials, wanted) in [
+        (3, (1, 9), (2, 9), flows, potentials, Proposal::Pair),
+        // The cheap way has become dearer, then narrower; more comes, then less; the other way has become cheaper.
+        (3, (5, 9), (2, 9), flows, potentials, Proposal::Pair),
+        (3, (1, 1), (2, 9), flows, potentials, Proposal::Pair),
+        (5, (1, 9), (2, 9), flows, potentials, Proposal::Pair),
+        (-2, (-1, 9), (2, 9), flows, potentials, Proposal::Cut),
+        (0, (1, 9), (2, 9), flows, potentials, Proposal::Pair),
+        (3, (1, 9), (-4, 9), flows, potentials, Proposal::Pair),
+        // Both ways together have room for 2.
+        (3, (1, 1), (2, 1), flows, potentials, Proposal::Cut),
+        // Flows and potentials of no such net.
+        (3, (1, 9), (2, 9), [-70, 50, 8], [4, 90], Proposal::Pair),
+    ] {
+        let rows = [
+            (0, 1, At(forced), [0, 0, 0], At(forced)),
+            (1, 0, At(0), [cheap.0, 0, cheap.0], At(cheap.1)),
+            (1, 0, At(0), [dear.0, 0, dear.0], At(dear.1)),
+        ];
+        let found = redrawn::<Brand>(&rt, rows.as_slice(), flows, potentials, Blank::new(1))?;
+        assert_eq!(rt; found, (wanted, true), "for {rows:?}");
     }
     Ok(())
 }

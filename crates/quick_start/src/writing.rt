@@ -10,6 +10,8 @@ use painted_search::Work;
 pub(crate) fn write_flows(flows: &Table<i64>, work: &mut Work)
     ensures flows { AreDrawn work.new.flows }
     ensures same { IsSameRoom work.old work.new }
+    ensures labels { work.new.labels ≡ work.old.labels }
+    ensures walk { work.new.walk ≡ work.old.walk }
 {
     for j in 0..work.arcs() {
         let flow = clamped(flows.at(j as u32));
@@ -22,6 +24,8 @@ pub(crate) fn write_potentials(potentials: &Table<i64>, work: &mut Work)
     ensures potentials { AreDrawn work.new.potentials }
     ensures same { IsSameRoom work.old work.new }
     ensures flows { work.new.flows ≡ work.old.flows }
+    ensures labels { work.new.labels ≡ work.old.labels }
+    ensures walk { work.new.walk ≡ work.old.walk }
 {
     let ground = potentials.at(0);
     for i in 0..work.nodes() {
@@ -30,22 +34,22 @@ pub(crate) fn write_potentials(potentials: &Table<i64>, work: &mut Work)
     }
 }
 
-/// Marks the nodes whose potential is less than the given height above the least one.
-pub(crate) fn mark_low(potentials: &Table<i64>, height: i64, work: &mut Work)
+/// Marks the nodes whose potential is less than the given height above the least one. The result is the potential from which
+/// on they aren't marked.
+pub(crate) fn mark_low(potentials: &Table<i64>, height: i64, work: &mut Work) -> i64
     ensures same { IsSameRoom work.old work.new }
-    ensures flows { work.new.flows ≡ work.old.flows }
-    ensures potentials { work.new.potentials ≡ work.old.potentials }
     ensures labels { work.new.labels ≡ replicate work.new.nodes None }
     ensures walk { work.new.walk ≡ [] }
 {
     let lowest = lowest(potentials, work.nodes());
-    let below = potentials.at(lowest).wrapping_add(height);
+    let border = potentials.at(lowest).wrapping_add(height);
     work.begin_at(NodeId(lowest));
     for i in 0..work.nodes() {
-        if potentials.at(i as u32) < below {
+        if potentials.at(i as u32) < border {
             work.mark(NodeId(i as u32));
         }
     }
+    border
 }
 
 /// The first node of least potential.

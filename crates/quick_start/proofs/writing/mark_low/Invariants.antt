@@ -5,8 +5,6 @@ use Rattle.quick_start.proofs.writing.mark_low.Given as goal
 abbrev pub invariant-loop-i : goal.invariant-loop-i
 invariant-loop-i l = record {
   same : IsSameRoom l.initial.work l.work;
-  flows : l.work.flows ≡ l.initial.work.flows;
-  potentials : l.work.potentials ≡ l.initial.work.potentials;
   labels : l.work.labels ≡ l.initial.work.labels;
   walk : l.work.walk ≡ l.initial.work.walk;
 }

@@ -9,4 +9,6 @@ invariant-loop-i l = record {
   written : (k : ℕ) → k < l.i → IsWithin far («at» l.work.potentials k);
   same : IsSameRoom l.initial.work l.work;
   flows : l.work.flows ≡ l.initial.work.flows;
+  labels : l.work.labels ≡ l.initial.work.labels;
+  walk : l.work.walk ≡ l.initial.work.walk;
 }
