@@ -15,6 +15,7 @@ pub mod Clamping
 pub mod Leveling
 -- Certificates of what was found:
 pub mod Kind
+pub mod Left
 pub mod FeasibleParts
 pub mod Whole
 -- Curves by the arc:

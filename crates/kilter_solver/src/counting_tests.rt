@@ -1,10 +1,12 @@
 // How often the passes read curves that count their readings themselves: a counter of a pass's own would not escape them.
 ghost use Rattle.std.specs.Prelude.{◌≡◌, ◌<◌};
 
+use crate::solve_tests::grounded_of;
 use crate::tests::net_of;
-use crate::{Balanced, balance};
+use crate::{Balanced, Kind, balance, prepare, solve_in};
 use feasible_flow::{FlowAns, feasible_flow};
 use feasible_tension::{TensionAns, feasible_tension};
+use ground_net::Grounded;
 use mono_curve::{Curve, Ext, Monotone, Steps};
 use net_incidence::Net;
 use painted_search::Work;
@@ -101,6 +103,42 @@ fn passed<L: Ledger>(
     }
     let found = balance(net, curves, &mut work, &mut steps);
     Ok((Some(found), work))
+}
+
+/// The kind of what is found for these curves, in room that is taken first.
+fn solved<L: Ledger>(
+    rt: &(impl Abort + AllocGlobal),
+    g: &Grounded,
+    curves: &[Watched],
+    blank: Blank,
+) -> Result<Kind, Fail>
+    requires name { blank.name ≡ L.name }
+    requires parts { blank.parts ≡ L.parts }
+    requires some { 0 < blank.parts }
+{
+    let mut steps = Steps::<L>::open(blank);
+    assert!(rt; curves.len() == g.net().arcs());
+    let mut prepared = prepare(rt.alloc(), g)?;
+    Ok(solve_in(g.net(), curves, &mut prepared, &mut steps))
+}
+
+#[test]
+fn a_whole_solve_takes_few_readings(rt: HostRuntime) -> Result<(), Fail> {
+    let text = b"network 1\nnode s 1000000\nnode t -1000000\narc a s t 0 1 1000000\n";
+    let g = grounded_of(&rt, text.as_slice())?;
+    let readings = Cell::new(0);
+    let mut curves = Vec::new(rt.alloc());
+    for curve in g.curves() {
+        curves.push(Watched {
+            curve,
+            readings: &readings,
+        })?;
+    }
+    let kind = solved::<Brand>(&rt, &g, curves.as_slice(), Blank::new(1))?;
+    assert!(rt; kind == Kind::Optimal);
+    let count = readings.get();
+    assert!(rt; 0 < count && count <= 35_712, "{} readings", count);
+    Ok(())
 }
 
 #[test]

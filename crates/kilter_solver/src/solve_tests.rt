@@ -1,7 +1,8 @@
 // Whole solves of small models: as they are drawn, and by the passes alone. And pairs and cuts that no test may take.
 ghost use Rattle.std.specs.Prelude.{◌≡◌, ◌<◌, IfOk};
 
-use crate::solving::pass;
+use crate::judging::pass;
+use crate::kind::Kind;
 use crate::tests::{curves_of, net_of};
 use crate::{feasibility, is_in_kilter, is_negative_cut, solve};
 use cert_text::{Certificate, FlowPart, TensionPart};
@@ -15,23 +16,16 @@ use std::sync::ledger::{Blank, Ledger};
 use std::test::Fail;
 use theory::{ArcId, NodeId};
 
-/// The kind of a certificate, with the number that is the same in all of that kind.
-#[derive(Clone, Copy, PartialEq, Eq, Debug)]
-enum Kind {
-    Optimal(i128),
-    Cut,
-    Circuit,
-}
-
-fn kind_of(certificate: &Certificate) -> Kind {
+/// The kind of a certificate, with its number.
+fn number_of(certificate: &Certificate) -> (Kind, i128) {
     match certificate {
-        Certificate::Optimal { cost, .. } => Kind::Optimal(*cost),
-        Certificate::Cut { .. } => Kind::Cut,
-        Certificate::Circuit { .. } => Kind::Circuit,
+        Certificate::Optimal { cost, .. } => (Kind::Optimal, *cost),
+        Certificate::Cut { capacity, .. } => (Kind::Cut, *capacity),
+        Certificate::Circuit { span, .. } => (Kind::Circuit, *span),
     }
 }
 
-fn grounded_of(rt: &(impl Abort + AllocGlobal), text: &[u8]) -> Result<Grounded, Fail> {
+pub(crate) fn grounded_of(rt: &(impl Abort + AllocGlobal), text: &[u8]) -> Result<Grounded, Fail> {
     assert!(rt; text.len() < 1000);
     let model = read_model(rt.alloc(), text)?;
     Ok(ground(rt.alloc(), &model)?)
@@ -41,16 +35,16 @@ fn solved<L: Ledger>(
     rt: &(impl Abort + AllocGlobal),
     g: &Grounded,
     blank: Blank,
-) -> Result<Kind, Fail>
+) -> Result<(Kind, i128), Fail>
     requires name { blank.name ≡ L.name }
     requires parts { blank.parts ≡ L.parts }
     requires some { 0 < blank.parts }
 {
     let mut steps = Steps::<L>::open(blank);
-    Ok(kind_of(&solve(rt.alloc(), g, &mut steps)?))
+    Ok(number_of(&solve(rt.alloc(), g, &mut steps)?))
 }
 
-/// The same where nothing is drawn.
+/// What is found where nothing is drawn.
 fn passed<L: Ledger>(
     rt: &(impl Abort + AllocGlobal),
     g: &Grounded,
@@ -62,7 +56,7 @@ fn passed<L: Ledger>(
 {
     let mut steps = Steps::<L>::open(blank);
     let mut work = Work::take(rt.alloc(), g.net().nodes(), g.net().arcs())?;
-    Ok(kind_of(&pass(rt.alloc(), g, &mut work, &mut steps)?))
+    Ok(pass(g.net(), g.curves(), &mut work, &mut steps))
 }
 
 /// Whether there is a feasible flow, and a feasible potential.
@@ -83,19 +77,19 @@ fn found<L: Ledger>(
     ))
 }
 
-/// Solved as it is drawn and by the passes alone, the model has this kind of certificate; and it has these parts.
+/// Solved as it is drawn the model has this kind of certificate with this number, and by the passes alone this kind; and it has these parts.
 fn compare(
     rt: &(impl Abort + AllocGlobal),
     text: &[u8],
-    kind: Kind,
+    answer: (Kind, i128),
     parts: (bool, bool),
 ) -> Result<(), Fail> {
     let g = grounded_of(rt, text)?;
     let drawn = solved::<Brand>(rt, &g, Blank::new(1))?;
     let by_passes = passed::<Brand>(rt, &g, Blank::new(1))?;
     let feasible = found::<Brand>(rt, &g, Blank::new(1))?;
-    assert_eq!(rt; drawn, kind);
-    assert_eq!(rt; by_passes, kind);
+    assert_eq!(rt; drawn, answer);
+    assert_eq!(rt; by_passes, answer.0);
     assert_eq!(rt; feasible, parts);
     Ok(())
 }
@@ -106,37 +100,37 @@ fn solves_as_drawn_and_by_passes(rt: HostRuntime) -> Result<(), Fail> {
         // 5 units, 4 of them at a price of 2.
         (
             b"network 1\nnode s 5\nnode t -5\narc a s t 0 2 4 5 10\n".as_slice(),
-            Kind::Optimal(13),
+            (Kind::Optimal, 13),
             (true, true),
         ),
         // Bases count.
         (
             b"network 1\nnode s 5 base 7\nnode t -5\narc a s t 2 1 9 base -3\n".as_slice(),
-            Kind::Optimal(7),
+            (Kind::Optimal, 7),
             (true, true),
         ),
         // The arc takes 3 of 5.
         (
             b"network 1\nnode s 5\nnode t -5\narc a s t 0 1 3\n".as_slice(),
-            Kind::Cut,
+            (Kind::Cut, -2),
             (false, true),
         ),
         // Round and round for less.
         (
             b"network 1\nnode s 0\nnode t 0\narc a s t 0 -1 +inf\narc b t s 0 -1 +inf\n".as_slice(),
-            Kind::Circuit,
+            (Kind::Circuit, -2),
             (true, false),
         ),
         // Neither flow nor potential.
         (
             b"network 1\nnode s 5\nnode t -3\narc a s t 0 -1 +inf\narc b t s 0 -1 +inf\n".as_slice(),
-            Kind::Cut,
+            (Kind::Cut, -2),
             (false, false),
         ),
-        (b"network 1\n".as_slice(), Kind::Optimal(0), (true, true)),
+        (b"network 1\n".as_slice(), (Kind::Optimal, 0), (true, true)),
     ];
-    for (text, kind, parts) in rows {
-        compare(&rt, text, kind, parts)?;
+    for (text, answer, parts) in rows {
+        compare(&rt, text, answer, parts)?;
     }
     Ok(())
 }
