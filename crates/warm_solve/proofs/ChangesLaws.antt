@@ -6,7 +6,7 @@ use Rattle.std.specs.Option.{option_map}
 use Rattle.std.specs.Str.{bytes_eq, is_utf8}
 use Rattle.std.proofs.Common.{arith, get_or, ◌∙◌, sym, ap, subst, inl, inr, below_more, add-one}
 use Rattle.std.proofs.lemmas.Bool.Decides.{nat_tests}
-use Rattle.std.proofs.lemmas.List.{drop_more, take_all, length-map, append-nil}
+use Rattle.std.proofs.lemmas.List.{drop_more, take_all, length-map, append-nil, length_push}
 use Rattle.std.proofs.lemmas.List.Elements.{All-push}
 use Rattle.theory.specs.Grounded.{Entries, NodeEntry, ArcEntry}
 use Rattle.model_text.specs.declared.fault.FaultWord.{FaultWord}
@@ -17,8 +17,8 @@ use Rattle.theory.specs.Limits.{number_most, IsWithin}
 use Rattle.model_text.proofs.FirstPlace.{found}
 use Rattle.model_text.proofs.SoundLines.{passes, yes}
 use Rattle.model_text.proofs.SoundLists.{IsSound, in-limits, sound-shaped, sound-list, sound-small, within, listing-is}
-use Rattle.warm_solve.specs.ChangesText.{Change, Spells, IsFirstFault, bad_line, no_words, NoFaultBefore, fault_at, changes_of, changes_in, change_of, part_of, arc_of, lacks_name, has_all, is_unknown, named_tests, entry_tests, line_tests, is_header}
-use Rattle.warm_solve.specs.ChangesTextLaws.{OneListLaw, SpelledOrBadLaw, OneFaultLaw, DecidedLaw, SpelledFitsLaw, IsChangeOf}
+use Rattle.warm_solve.specs.ChangesText.{Change, changes_most, Spells, IsFirstFault, bad_line, no_words, NoFaultBefore, fault_at, changes_of, changes_in, change_of, part_of, arc_of, lacks_name, has_all, is_unknown, named_tests, entry_tests, line_tests, is_header}
+use Rattle.warm_solve.specs.ChangesTextLaws.{OneListLaw, SpelledOrBadLaw, OneFaultLaw, DecidedLaw, SpelledFitsLaw, IsChangeOf, AreChangesOf}
 use Rattle.warm_solve.proofs.ChangesLines.{begins, goes_on, of_node, of_arc, of_none, node_changes, arc_changes, blank_adds, header_adds, changes-after, fault-here}
 
 pub one_list : OneListLaw
@@ -92,8 +92,9 @@ arc_there m false name known = by (place_of (arc_names m) name) refl known
     by None is known = cc
     by (Some j) is known = omega (arith, (found (bytes_eq name) (arc_names m) j (sym is)).1, length-map m.arcs (λ (entry : ArcEntry). entry.name))
 
+-- the change is one of the model, and there was room for it
 fits : (m : Entries) (node : Bool) (count line : ℕ) (words : List (List ℕ)) → first_fault (named_tests m node count words) ≡ None
-    → IsChangeOf m (change_of m node line words)
+    → IsChangeOf m (change_of m node line words) × (has_all count ≡ false)
 fits m node count line words none =
     let part = part_of words in
     let named = passes (lacks_name words) _ _ none in
@@ -106,12 +107,14 @@ fits m node count line words none =
     let small = in-limits part limit.0 in
     let sound : IsSound (part_listing part).items =
     rw (listing-is part) (sound-shaped (part_items part) node small.short small.items shape.0 order.0) in
-    let base : IsWithin number_most (part_listing part).base = rw (listing-is part) (within (part_base part) small.base) in
-    record {
-      there = arc_there m node (word_at words 1) known.0;
-      limits = record { short = sound.short; items = sound-small (part_listing part).items sound; base = base };
-      is_list = sound-list (part_listing part).items sound;
-    }
+    let base : IsWithin number_most (part_listing part).base = rw (listing-is part) (within (part_base part) small.base) in (
+      record {
+        there = arc_there m node (word_at words 1) known.0;
+        limits = record { short = sound.short; items = sound-small (part_listing part).items sound; base = base };
+        is_list = sound-list (part_listing part).items sound;
+      },
+      room.0,
+    )
 
 -- ---- any line without a fault
 
@@ -123,36 +126,44 @@ is-text : (m : Entries) (begun : Bool) (count : ℕ) (line : List ℕ) → first
 unfolding line_tests
 is-text m begun count line none = yes (is_utf8 line) (passes (not (is_utf8 line)) _ _ none).0
 
-module _ (m : Entries) (begun : Bool) (count number : ℕ) (line : List ℕ) (none : first_fault (line_tests m begun count line) ≡ None)
-    (changes : List Change) (fit : All (IsChangeOf m) changes) where
-  adds-none : changes_in m number (line_words line) ≡ [] → All (IsChangeOf m) (changes ++ changes_in m number (line_words line))
+module _ (m : Entries) (begun : Bool) (number : ℕ) (line : List ℕ) (changes : List Change) (fit : AreChangesOf m changes)
+    (none : first_fault (line_tests m begun (length changes) line) ≡ None) where
+  adds-none : changes_in m number (line_words line) ≡ [] → AreChangesOf m (changes ++ changes_in m number (line_words line))
   adds-none nothing = rw (nothing, append-nil changes) fit
 
   adds-one : (node : Bool) → changes_in m number (line_words line) ≡ change_of m node number (line_words line) ∷ []
-      → first_fault (named_tests m node count (line_words line)) ≡ None → All (IsChangeOf m) (changes ++ changes_in m number (line_words line))
-  adds-one node one passed = rw one (All-push (IsChangeOf m) changes (change_of m node number (line_words line)) fit (fits m node count number (line_words line) passed))
+      → first_fault (named_tests m node (length changes) (line_words line)) ≡ None → AreChangesOf m (changes ++ changes_in m number (line_words line))
+  adds-one node one passed =
+      let change = change_of m node number (line_words line) in
+      let its = fits m node (length changes) number (line_words line) passed in
+      let room : length changes < changes_most = grind (arith, nat_tests, its.1) in
+      rw one (record {
+        each = All-push (IsChangeOf m) changes change fit.each its.0;
+        few = omega (arith, length_push changes change);
+      })
 
-  fits-entry : first_fault (entry_tests m count (line_words line)) ≡ None → All (IsChangeOf m) (changes ++ changes_in m number (line_words line))
+  fits-entry : first_fault (entry_tests m (length changes) (line_words line)) ≡ None → AreChangesOf m (changes ++ changes_in m number (line_words line))
   fits-entry passed = by (is_node_line (line_words line)) (is_arc_line (line_words line)) refl refl
     where
       by : (node arc : Bool) → is_node_line (line_words line) ≡ node → is_arc_line (line_words line) ≡ arc
-          → All (IsChangeOf m) (changes ++ changes_in m number (line_words line))
-      by true arc node-is arc-is = adds-one true (node_changes m number (line_words line) node-is) (sym (of_node m count (line_words line) node-is) ∙ passed)
+          → AreChangesOf m (changes ++ changes_in m number (line_words line))
+      by true arc node-is arc-is = adds-one true (node_changes m number (line_words line) node-is) (sym (of_node m (length changes) (line_words line) node-is) ∙ passed)
       by false true node-is arc-is =
-          adds-one false (arc_changes m number (line_words line) node-is arc-is) (sym (of_arc m count (line_words line) node-is arc-is) ∙ passed)
-      by false false node-is arc-is = absurd (clash (first_fault (entry_tests m count (line_words line))) _ passed (of_none m count (line_words line) node-is arc-is))
+          adds-one false (arc_changes m number (line_words line) node-is arc-is) (sym (of_arc m (length changes) (line_words line) node-is arc-is) ∙ passed)
+      by false false node-is arc-is =
+          absurd (clash (first_fault (entry_tests m (length changes) (line_words line))) _ passed (of_none m (length changes) (line_words line) node-is arc-is))
 
-  fits-line : All (IsChangeOf m) (changes ++ changes_in m number (line_words line))
+  fits-line : AreChangesOf m (changes ++ changes_in m number (line_words line))
   fits-line = by begun (has_words line) refl refl
     where
       text : is_utf8 line ≡ true
-      text = is-text m begun count line none
+      text = is-text m begun (length changes) line none
 
-      by : (b w : Bool) → begun ≡ b → has_words line ≡ w → All (IsChangeOf m) (changes ++ changes_in m number (line_words line))
+      by : (b w : Bool) → begun ≡ b → has_words line ≡ w → AreChangesOf m (changes ++ changes_in m number (line_words line))
       by b false started words = adds-none (blank_adds m number (line_words line) (without line words))
-      by true true started words = fits-entry (sym (goes_on m begun count line text words started) ∙ none)
+      by true true started words = fits-entry (sym (goes_on m begun (length changes) line text words started) ∙ none)
       by false true started words =
-          let header = passes (not (is_header (line_words line))) _ _ (sym (begins m begun count line text words started) ∙ none) in
+          let header = passes (not (is_header (line_words line))) _ _ (sym (begins m begun (length changes) line text words started) ∙ none) in
           adds-none (header_adds m number (line_words line) (yes (is_header (line_words line)) header.0))
 
 -- ---- all lines
@@ -161,18 +172,18 @@ no-changes : (m : Entries) → changes_of m [] ≡ []
 unfolding changes_of
 no-changes m = refl
 
-fits-lines : (m : Entries) (lines : List (List ℕ)) (n : ℕ) → n ≤ length lines → NoFaultBefore m lines n → All (IsChangeOf m) (changes_of m (take n lines))
-fits-lines m lines zero most none = rw (no-changes m) (λ k d here. absurd (omega arith))
+fits-lines : (m : Entries) (lines : List (List ℕ)) (n : ℕ) → n ≤ length lines → NoFaultBefore m lines n → AreChangesOf m (changes_of m (take n lines))
+fits-lines m lines zero most none = rw (no-changes m) (record { each = λ k d here. absurd (omega arith); few = omega arith })
 fits-lines m lines (suc n) most none =
     let line = get_or lines n [] in
     let left = drop_more lines n [] (omega arith) in
     let before = fits-lines m lines n (omega arith) (λ k below. none k (omega arith)) in
     let fault = sym (fault-here m lines n line (drop (n + 1) lines) left) ∙ none n (omega arith) in
-    rw (← add-one) (subst (All (IsChangeOf m)) (sym (changes-after m lines n line (drop (n + 1) lines) left))
-    (fits-line m (list_any has_words (take n lines)) (length (changes_of m (take n lines))) (n + 1) line fault (changes_of m (take n lines)) before))
+    rw (← add-one) (subst (AreChangesOf m) (sym (changes-after m lines n line (drop (n + 1) lines) left))
+    (fits-line m (list_any has_words (take n lines)) (n + 1) line (changes_of m (take n lines)) before fault))
 
 pub spelled_fits : SpelledFitsLaw
 spelled_fits m text changes spells =
     let lines = text_lines text in
     let all : take (length lines) lines ≡ lines = take_all (length lines) lines (omega arith) in
-    subst (All (IsChangeOf m)) (sym spells.are) (rw all at (fits-lines m lines (length lines) (omega arith) spells.no_fault))
+    subst (AreChangesOf m) (sym spells.are) (rw all at (fits-lines m lines (length lines) (omega arith) spells.no_fault))

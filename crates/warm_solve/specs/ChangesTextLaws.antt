@@ -1,10 +1,10 @@
 -- Laws of the changes text: what reading a text for a model gives is a function of both, and what it gives fits the model.
-use Rattle.std.specs.Prelude.{◌≡◌, ℕ, ◌+◌, ◌<◌, ◌⊎◌, List, length, All}
+use Rattle.std.specs.Prelude.{◌≡◌, ℕ, ◌+◌, ◌<◌, ◌≤◌, ◌⊎◌, List, length, All}
 use Rattle.theory.specs.CurveList.{IsCurveList}
 use Rattle.theory.specs.Grounded.{Entries}
 use Rattle.model_text.specs.Model.{IsWithinLimits}
 use Rattle.model_text.specs.declared.fault.FaultWord.{FaultWord}
-use Rattle.warm_solve.specs.ChangesText.{Change, Spells, IsFirstFault}
+use Rattle.warm_solve.specs.ChangesText.{Change, changes_most, Spells, IsFirstFault}
 
 -- a text spells at most one list of changes of a model
 abbrev pub OneListLaw : Type 0
@@ -30,5 +30,9 @@ pub record IsChangeOf (m : Entries) (change : Change) : Type 0 where
   pub limits : IsWithinLimits change.curve
   pub is_list : IsCurveList change.curve.items
 
+pub record AreChangesOf (m : Entries) (changes : List Change) : Type 0 where
+  pub each : All (IsChangeOf m) changes
+  pub few : length changes ≤ changes_most
+
 abbrev pub SpelledFitsLaw : Type 0
-SpelledFitsLaw = (m : Entries) (text : List ℕ) (changes : List Change) → Spells m text changes → All (IsChangeOf m) changes
+SpelledFitsLaw = (m : Entries) (text : List ℕ) (changes : List Change) → Spells m text changes → AreChangesOf m changes

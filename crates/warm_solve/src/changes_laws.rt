@@ -21,7 +21,7 @@ pub fn decided()
     ensures { DecidedLaw }
 {}
 
-/// Each change that a text spells is of an arc that is there, by a curve within the limits.
+/// Each change that a text spells is of an arc that is there, by a curve within the limits, and they aren't too many.
 pub fn spelled_fits()
     ensures { SpelledFitsLaw }
 {}

@@ -11,7 +11,7 @@ use crate::anew::number_anew;
 use crate::kind::Kind;
 use cert_text::Certificate;
 use ground_net::Grounded;
-use kilter_solver::solve;
+use kilter_solver::{Prepared, prepare, resolve_kept, solve_kept};
 use mono_curve::{Curve, Steps};
 use net_incidence::ArcId;
 use std::alloc::{AllocError, Global};
@@ -19,24 +19,24 @@ use std::marker::Model;
 use std::sync::ledger::Ledger;
 
 /// A network with a certificate that is valid for it. A change of a curve keeps the certificate where it stays: that looks at
-/// the changed arc alone. Where it doesn't stay the network is solved anew.
+/// the changed arc alone. Where it doesn't stay the network is solved anew, and what the last solve found is where the next one
+/// begins.
 #[derive(Drop)]
 pub struct Warm {
-    alloc: Global,
     net: Grounded,
     kept: Certificate,
+    room: Room,
 }
 
 impl Model for Warm {
-    ghost use Rattle.theory.specs.Certificate.{IsValid};
     ghost use Rattle.cert_text.specs.Shown.{shown};
-    ghost use Rattle.warm_solve.specs.Kept.{Kept};
+    ghost use Rattle.warm_solve.specs.Kept.{Kept, IsKept};
 
     ghost Value = { Kept };
 
     ghost view = { λ warm. record { network = warm.net.network; kept = shown warm.kept } };
 
-    ghost invariant = { λ warm. IsValid warm.net.network (shown warm.kept) };
+    ghost invariant = { λ warm. IsKept warm.net.network (shown warm.kept) warm.room.prepared };
 }
 
 impl Warm {
@@ -44,7 +44,8 @@ impl Warm {
     ghost use Rattle.kilter_solver.specs.Kind.{IsRightKind};
     ghost use Rattle.warm_solve.specs.Kinds.{kind_of};
 
-    /// Solves the network and keeps both. After want of memory the network is gone.
+    /// Solves the network and keeps both, and all room of the solve: a change takes memory for a certificate alone. After want of
+    /// memory the network is gone.
     pub fn start<L: Ledger>(
         alloc: Global,
         g: Grounded,
@@ -56,12 +57,9 @@ impl Warm {
         ensures no_fewer { steps.old ≤ steps.new }
         ensures count { steps.new ≤ steps.old + reading_bound g.network.nodes (length g.network.arcs) level_most }
     {
-        let kept = solve(alloc, &g, steps)?;
-        Ok(Warm {
-            alloc,
-            net: g,
-            kept,
-        })
+        let mut room = Room::take(alloc, &g)?;
+        let kept = room.solve(&g, steps)?;
+        Ok(Warm { net: g, kept, room })
     }
 
     /// Another curve for the arc, and a certificate of the network with it.
@@ -88,7 +86,15 @@ impl Warm {
         ensures count { steps.new ≤ steps.old + 2 * reading_bound self.old.network.nodes (length self.old.network.arcs) level_most }
     {
         let before = self.net.replace_curve(arc, curve);
-        match renew(self.alloc, &self.net, arc, &before, &mut self.kept, steps) {
+        let renewed = renew(
+            &mut self.room,
+            &self.net,
+            arc,
+            &before,
+            &mut self.kept,
+            steps,
+        );
+        match renewed {
             Ok(()) => Ok(Kind::of(&self.kept)),
             Err(AllocError) => {
                 let _refused = self.net.replace_curve(arc, before);
@@ -112,9 +118,64 @@ impl Warm {
     }
 }
 
+/// The room of every solve, and where the memory of a certificate comes from.
+#[derive(Drop)]
+struct Room {
+    alloc: Global,
+    prepared: Prepared,
+}
+
+impl Room {
+    ghost use Rattle.kilter_solver.specs.Kind.{IsRightKind};
+
+    fn take(alloc: Global, g: &Grounded) -> Result<Room, AllocError>
+        ensures nodes { IfOk result (λ room. room.prepared.nodes ≡ g.now.network.nodes) }
+        ensures arcs { IfOk result (λ room. room.prepared.arcs ≡ length g.now.network.arcs) }
+    {
+        Ok(Room {
+            alloc,
+            prepared: prepare(alloc, g)?,
+        })
+    }
+
+    fn solve<L: Ledger>(
+        &mut self,
+        g: &Grounded,
+        steps: &mut Steps<L>,
+    ) -> Result<Certificate, AllocError>
+        requires nodes { self.old.prepared.nodes ≡ g.now.network.nodes }
+        requires arcs { self.old.prepared.arcs ≡ length g.now.network.arcs }
+        ensures valid { IfOk result (λ c. IsValid g.now.network (shown c)) }
+        ensures kind { IfOk result (λ c. IsRightKind g.now.network (shown c)) }
+        ensures nodes { self.new.prepared.nodes ≡ self.old.prepared.nodes }
+        ensures arcs { self.new.prepared.arcs ≡ self.old.prepared.arcs }
+        ensures no_fewer { steps.old ≤ steps.new }
+        ensures count { steps.new ≤ steps.old + reading_bound g.now.network.nodes (length g.now.network.arcs) level_most }
+    {
+        solve_kept(self.alloc, g, &mut self.prepared, steps)
+    }
+
+    fn resolve<L: Ledger>(
+        &mut self,
+        g: &Grounded,
+        steps: &mut Steps<L>,
+    ) -> Result<Certificate, AllocError>
+        requires nodes { self.old.prepared.nodes ≡ g.now.network.nodes }
+        requires arcs { self.old.prepared.arcs ≡ length g.now.network.arcs }
+        ensures valid { IfOk result (λ c. IsValid g.now.network (shown c)) }
+        ensures kind { IfOk result (λ c. IsRightKind g.now.network (shown c)) }
+        ensures nodes { self.new.prepared.nodes ≡ self.old.prepared.nodes }
+        ensures arcs { self.new.prepared.arcs ≡ self.old.prepared.arcs }
+        ensures no_fewer { steps.old ≤ steps.new }
+        ensures count { steps.new ≤ steps.old + reading_bound g.now.network.nodes (length g.now.network.arcs) level_most }
+    {
+        resolve_kept(self.alloc, g, &mut self.prepared, steps)
+    }
+}
+
 /// A certificate of the network, from one that was valid while the arc had the curve `before`.
 fn renew<L: Ledger>(
-    alloc: Global,
+    room: &mut Room,
     g: &Grounded,
     arc: ArcId,
     before: &Curve,
@@ -123,6 +184,10 @@ fn renew<L: Ledger>(
 ) -> Result<(), AllocError>
     requires there { arc.0 < length g.now.network.arcs }
     requires valid { IsValid (replaced g.now.network arc.0 before.now.listing) (shown kept.old) }
+    requires nodes { room.old.prepared.nodes ≡ g.now.network.nodes }
+    requires arcs { room.old.prepared.arcs ≡ length g.now.network.arcs }
+    ensures nodes { room.new.prepared.nodes ≡ room.old.prepared.nodes }
+    ensures arcs { room.new.prepared.arcs ≡ room.old.prepared.arcs }
     ensures valid { OnOk result (IsValid g.now.network (shown kept.new)) }
     ensures on_err { OnErr result (kept.new ≡ kept.old) }
     ensures stays { Stays g.now.network (shown kept.old) → result ≡ Ok tt }
@@ -135,7 +200,7 @@ fn renew<L: Ledger>(
         renumber(kept, number);
         return Ok(());
     }
-    *kept = solve(alloc, g, steps)?;
+    *kept = room.resolve(g, steps)?;
     Ok(())
 }
 
