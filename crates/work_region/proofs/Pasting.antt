@@ -15,6 +15,15 @@ length-part start len xs within =
     let rest = length-drop start xs in
     length-take-le len (drop start xs) (omega arith)
 
+-- what is behind the front of a part
+pub part-behind : {A : Type 0} (start len k : ℕ) (xs : List A) → k ≤ len → drop k (part start len xs) ≡ part (start + k) (len - k) xs
+part-behind start len k xs within =
+    let m : ℕ = len - k in
+    let same : k + m ≡ len = omega arith in
+    ap (λ n. drop k (part start n xs)) (sym same)
+    ∙ drop-take k m (drop start xs)
+    ∙ ap (take m) (drop-drop k start xs)
+
 -- ---- parts of the front
 
 pub part-take : {A : Type 0} (start len n : ℕ) (xs : List A) → start + len ≤ n → part start len (take n xs) ≡ part start len xs

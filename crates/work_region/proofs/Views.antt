@@ -1,13 +1,13 @@
 -- What a region is seen as after a write. The words of its blocks are the first words of its list, so a write to a block is one
 -- to these, and every block apart from it has the same words before and after.
-use Rattle.std.proofs.Common.{◌≡◌, ℕ, ◌+◌, ◌-◌, ◌<◌, ◌≤◌, ℤ, pos, List, ◌++◌, length, take, drop, set, replicate, refl, sym, ap, ap₂, ◌∙◌, inl, ⊎_elim, length-append, length-drop, arith}
+use Rattle.std.proofs.Common.{◌≡◌, ℕ, ◌+◌, ◌-◌, ◌<◌, ◌≤◌, ℤ, pos, List, ◌++◌, length, take, drop, set, replicate, refl, sym, ap, ap₂, ◌∙◌, inl, inr, ⊎_elim, length-append, length-drop, arith}
 use Rattle.std.proofs.lemmas.List.{append_assoc, take_at, take_all, take-take, take-append-le, take-append-drop, drop_at, drop-drop, drop-append-le, length-replicate, length-take-le, length-set}
 use Rattle.std.proofs.lemmas.Bool.{cases_lt}
 use Rattle.std.proofs.Math.Seq.{take-set-lt}
 use Rattle.work_region.specs.declared.block.Block.{Block}
 use Rattle.work_region.specs.Words.{Words}
 use Rattle.work_region.specs.Blocks.{end_of, IsBlockOf, IsCarved, IsWritten, block_words}
-use Rattle.work_region.proofs.Pasting.{pasted, part, part-take, part-append, part-set_at, part-set_before, part-set_behind, length-pasted, take-pasted, part-pasted_at, part-pasted_before, part-pasted_behind}
+use Rattle.work_region.proofs.Pasting.{pasted, part, part-behind, part-take, part-append, part-set_at, part-set_before, part-set_behind, length-pasted, take-pasted, part-pasted_at, part-pasted_before, part-pasted_behind}
 
 -- one word of a block
 pub word-written : (old new : Words) (b : Block) (i : ℕ) (word : ℤ) → IsBlockOf old b → i < b.len
@@ -40,6 +40,29 @@ block-written old new b words there size carved left = record {
       (λ (behind : end_of b ≤ c.start). part-pasted_behind c.start c.len b.start b.len words old.carved size there.inside behind)
       apart;
 }
+
+-- the first words of a block
+pub front-written : (old new : Words) (b : Block) (k : ℕ) (words : List ℤ) → k ≤ b.len
+    → IsWritten old new (record { start = b.start; len = k }) words
+    → IsWritten old new b (words ++ drop k (block_words old b))
+front-written old new b k words within to =
+    let all : List ℤ = block_words new b in
+    let rest : Block = record { start = b.start + k; len = b.len - k } in
+    let front : take k all ≡ words = take-take k b.len (drop b.start new.carved) within ∙ to.block in
+    let back : drop k all ≡ drop k (block_words old b) =
+    part-behind b.start b.len k new.carved within
+    ∙ to.kept rest (inr (omega arith))
+    ∙ sym (part-behind b.start b.len k old.carved within) in
+    record {
+      count = to.count;
+      left = to.left;
+      block = sym (take-append-drop k all) ∙ ap₂ (λ (front : List ℤ) (back : List ℤ). front ++ back) front back;
+      kept = λ c apart.
+          ⊎_elim
+          (λ (before : end_of c ≤ b.start). to.kept c (inl before))
+          (λ (behind : end_of b ≤ c.start). to.kept c (inr (omega arith)))
+          apart;
+    }
 
 -- a block behind the others
 pub block-carved : (old new : Words) (b : Block) (len : ℕ) → b.start ≡ length old.carved → b.len ≡ len → new.left + len ≡ old.left

@@ -1,5 +1,5 @@
 -- Blocks: parts of a region's words. Two blocks are apart where one ends before the other begins.
-use Rattle.std.specs.Prelude.{◌≡◌, ◌⊎◌, ℕ, ◌+◌, ◌≤◌, ℤ, pos, List, length, take, drop, replicate}
+use Rattle.std.specs.Prelude.{◌≡◌, ◌⊎◌, ℕ, ◌+◌, ◌≤◌, ℤ, pos, List, ◌++◌, length, take, drop, replicate, reverse}
 use Rattle.work_region.specs.declared.block.Block.{Block}
 use Rattle.work_region.specs.Words.{Words}
 
@@ -33,3 +33,7 @@ pub record IsWritten (old new : Words) (b : Block) (words : List ℤ) : Type 0 w
   pub left : new.left ≡ old.left
   pub block : block_words new b ≡ words
   pub kept : (c : Block) → AreApart c b → block_words new c ≡ block_words old c
+
+-- the first words in reverse order, and the others as they were
+abbrev pub reverse_front : ℕ → List ℤ → List ℤ
+reverse_front count words = reverse (take count words) ++ drop count words

@@ -31,7 +31,7 @@ impl Model for Region {
 }
 
 impl Region {
-    ghost use Rattle.work_region.specs.Blocks.{IsBlockOf, IsCarved, IsWritten, block_words};
+    ghost use Rattle.work_region.specs.Blocks.{IsBlockOf, IsCarved, IsWritten, block_words, reverse_front};
     ghost use Rattle.work_region.specs.Lending.{LendsBlock};
 
     /// A region of this many words.
@@ -102,6 +102,16 @@ impl Region {
     {
         let end = self.place(block, block.len);
         self.words.slice_mut(block.start..end).fill(word);
+    }
+
+    /// Turns the first words of the block round, this many.
+    pub fn reverse(&mut self, block: &Block, count: usize)
+        requires carved { IsBlockOf self.old block.now }
+        requires there { count ≤ block.now.len }
+        ensures { IsWritten self.old self.new block.now (reverse_front count (block_words self.old block.now)) }
+    {
+        let end = self.place(block, count);
+        self.words.slice_mut(block.start..end).reverse();
     }
 
     /// Writes the words of one block to another of the same length.

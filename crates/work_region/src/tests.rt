@@ -37,3 +37,18 @@ fn copies_between_blocks(rt: HostRuntime) -> Result<(), Fail> {
     assert_eq!(rt; region.left(), 1);
     Ok(())
 }
+
+#[test]
+fn turns_a_front_round(rt: HostRuntime) -> Result<(), Fail> {
+    let mut region = Region::take(rt.alloc(), 5)?;
+    let first = region.carve(1).expect(&rt, "five are left");
+    let block = region.carve(4).expect(&rt, "four are left");
+    region.set(&first, 0, 9);
+    region.set(&block, 0, 1);
+    region.set(&block, 1, 2);
+    region.set(&block, 3, 4);
+    region.reverse(&block, 3);
+    assert_eq!(rt; region.words(&first), [9].as_slice());
+    assert_eq!(rt; region.words(&block), [0, 2, 1, 4].as_slice());
+    Ok(())
+}
