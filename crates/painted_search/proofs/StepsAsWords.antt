@@ -1,10 +1,10 @@
 -- Steps and numbers as words, and back.
-use Rattle.std.proofs.Common.{◌≡◌, ℕ, suc, ◌+◌, ◌%◌, ◌<◌, ◌^◌, ℤ, pos, Bool, true, false, Some, List, map, set, replicate, ap, ◌∙◌, arith}
-use Rattle.std.proofs.lemmas.List.{map-set}
+use Rattle.std.proofs.Common.{◌≡◌, ℕ, suc, ◌+◌, ◌%◌, ◌<◌, ◌^◌, ℤ, pos, Bool, true, false, Option, Some, List, [], ◌∷◌, ◌++◌, map, set, replicate, reverse, unwrap_or, refl, sym, ap, ◌∙◌, arith}
+use Rattle.std.proofs.lemmas.List.{map-set, map-append, reverse-append}
 use lib.LanesLaws.{map-replicate}
 use Rattle.theory.specs.declared.network.ArcId.{ArcId}
 use Rattle.theory.specs.declared.network.Step.{Step}
-use Rattle.painted_search.specs.StepWords.{word_of, label_of, index_of}
+use Rattle.painted_search.specs.StepWords.{word_of, label_of, step_of, index_of}
 
 same-number : (n : ℕ) → n < 2 ^ 32 → n % 2 ^ 32 ≡ n
 same-number n small = omega arith
@@ -33,3 +33,14 @@ queue-set words k n small = map-set index_of words k (pos n) ∙ ap (set (map in
 
 pub map-zeros : {A : Type 0} (f : ℤ → A) (n : ℕ) → map f (replicate n (pos 0)) ≡ replicate n (f (pos 0))
 map-zeros f n = map-replicate f n (pos 0)
+
+pub step-word : (s : Step) → s.arc.0 < 2 ^ 32 → step_of (word_of s) ≡ s
+step-word s small = ap (λ (t : Option Step). unwrap_or t (record { arc = record { 0 = 0 }; forward = true })) (label-word s small)
+
+pub map-reverse : {A B : Type 0} (f : A → B) (xs : List A) → map f (reverse xs) ≡ reverse (map f xs)
+map-reverse f [] = refl
+map-reverse f (x ∷ xs) =
+    ap (map f) (reverse-append (x ∷ []) xs)
+    ∙ map-append f (reverse xs) (x ∷ [])
+    ∙ ap (λ ys. ys ++ f x ∷ []) (map-reverse f xs)
+    ∙ sym (reverse-append (f x ∷ []) (map f xs))

@@ -15,11 +15,15 @@ pub(crate) struct Layout {
     pub(crate) flows: Block,
     // a label for each node
     pub(crate) labels: Block,
-    // two words for each node, and one more
+    // a mark for each node
+    pub(crate) marks: Block,
+    // room for a step for each node
+    pub(crate) walk: Block,
+    // two words for each node
     pub(crate) queue: Block,
     // the potentials, then the scratch: what is lent lies last
     pub(crate) words: Block,
-    ghost laid: { IsLaid nodes arcs flows labels queue words },
+    ghost laid: { IsLaid nodes arcs flows labels marks walk queue words },
 }
 
 impl Layout {
@@ -33,7 +37,7 @@ impl Layout {
         ensures count { result ≡ words_for nodes arcs }
         ensures most { result ≤ 8 * nodes + arcs }
     {
-        arcs + 6 * nodes + 1
+        arcs + 8 * nodes
     }
 
     /// Carves the blocks.
@@ -50,13 +54,17 @@ impl Layout {
     {
         let flows = carved(region, arcs);
         let labels = carved(region, nodes);
-        let queue = carved(region, 2 * nodes + 1);
+        let marks = carved(region, nodes);
+        let walk = carved(region, nodes);
+        let queue = carved(region, 2 * nodes);
         let words = carved(region, 3 * nodes);
         Layout {
             nodes,
             arcs,
             flows,
             labels,
+            marks,
+            walk,
             queue,
             words,
         }

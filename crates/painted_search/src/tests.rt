@@ -163,8 +163,12 @@ fn finds_paths_and_cuts(rt: HostRuntime) -> Result<(), Fail> {
         let seen = searched::<Brand>(rt.alloc(), &net, &colours, from, to, Blank::new(1))?;
         let (answer, work) = seen.expect(&rt, "both nodes are there");
         assert_eq!(rt; answer, found, "for {colours:?}");
-        assert_eq!(rt; work.walk(), walk, "for {colours:?}");
-        assert_eq!(rt; work.marks(), marks.as_slice(), "for {colours:?}");
+        let mut steps = Vec::with_capacity(rt.alloc(), work.walk_len())?;
+        work.put_walk(&mut steps);
+        assert_eq!(rt; steps.as_slice(), walk, "for {colours:?}");
+        let mut marked = Vec::with_capacity(rt.alloc(), work.nodes())?;
+        work.put_marks(&mut marked);
+        assert_eq!(rt; marked.as_slice(), marks.as_slice(), "for {colours:?}");
     }
     Ok(())
 }
@@ -176,9 +180,9 @@ fn keeps_what_is_written(rt: HostRuntime) -> Result<(), Fail> {
     work.set_flow(ArcId(2), -5);
     work.set_potential(NodeId(1), 7);
     work.push_step(backward(2));
+    assert!(rt; work.nodes() == 2 && work.walk_len() == 1);
     assert_eq!(rt; work.flows(), [0, 0, -5].as_slice());
     assert_eq!(rt; work.potentials(), [0, 7].as_slice());
-    assert_eq!(rt; work.walk(), [backward(2)].as_slice());
     assert_eq!(rt;
         (
             work.flow(ArcId(2)),

@@ -1,6 +1,6 @@
-// Steps and nodes as words of a region.
+// Steps, marks and nodes as words of a region.
 ghost use Rattle.std.specs.Prelude.{◌≡◌};
-ghost use Rattle.painted_search.specs.StepWords.{word_of, label_of, index_of};
+ghost use Rattle.painted_search.specs.StepWords.{word_of, label_of, step_of, index_of, mark_of};
 
 use theory::{ArcId, Step};
 
@@ -27,6 +27,26 @@ pub(crate) fn label_of(word: i64) -> Option<Step>
         arc: ArcId(((place - 1) % NUMBERS) as u32),
         forward: word > 0,
     })
+}
+
+/// The step that the word stands for, where it stands for one.
+pub(crate) fn step_of(word: i64) -> Step
+    ensures { result ≡ step_of word }
+{
+    match label_of(word) {
+        Some(step) => step,
+        None => Step {
+            arc: ArcId(0),
+            forward: true,
+        },
+    }
+}
+
+/// Whether the word stands for a mark.
+pub(crate) fn mark_of(word: i64) -> bool
+    ensures { result ≡ mark_of word }
+{
+    word != 0
 }
 
 /// The number that the word stands for.

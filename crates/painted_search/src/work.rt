@@ -1,9 +1,9 @@
 // The working room of a solve: all that its passes write, taken once.
-ghost use Rattle.std.specs.Prelude.{◌≡◌, ◌≤◌, length, vec_capacity};
+ghost use Rattle.std.specs.Prelude.{◌≡◌, ◌≤◌, length};
 ghost use Rattle.painted_search.specs.Laid.{words_for};
 
 use crate::layout::Layout;
-use crate::words::{index_of, label_of, word_of};
+use crate::words::{index_of, label_of, mark_of, step_of, word_of};
 use std::alloc::{AllocError, Global};
 use std::marker::Model;
 use theory::{ArcId, NodeId, Step};
@@ -16,19 +16,18 @@ use work_region::Region;
 pub struct Work {
     region: Region,
     layout: Layout,
-    // marks and steps are lent as lists of their own
-    marks: Vec<bool>,
-    walk: Vec<Step>,
+    // how many steps the walk has
+    walk_len: usize,
+    // the last word for the queue, behind those that lie in the region
+    last: u32,
     ghost full: { length region.carved ≡ words_for layout.nodes layout.arcs },
-    ghost one_mark_each: { length marks.items ≡ layout.nodes },
-    ghost short_walk: { length walk.items ≤ layout.nodes },
-    ghost walk_room: { layout.nodes ≤ vec_capacity walk },
+    ghost short_walk: { walk_len ≤ layout.nodes },
 }
 
 impl Model for Work {
-    ghost use Rattle.std.specs.Prelude.{take, drop, map};
+    ghost use Rattle.std.specs.Prelude.{[], ◌∷◌, ◌++◌, take, drop, map};
     ghost use Rattle.work_region.specs.Blocks.{block_words};
-    ghost use Rattle.painted_search.specs.StepWords.{label_of, index_of};
+    ghost use Rattle.painted_search.specs.StepWords.{label_of, step_of, index_of, mark_of};
     ghost use Rattle.painted_search.specs.Room.{Room};
     ghost use Rattle.painted_search.specs.LaidFacts.{sized-laid, scratch-laid, queue-laid};
 
@@ -39,19 +38,19 @@ impl Model for Work {
       arcs = work.layout.arcs;
       flows = block_words work.region work.layout.flows;
       potentials = take work.layout.nodes (block_words work.region work.layout.words);
-      reached = work.marks.items;
+      reached = map mark_of (block_words work.region work.layout.marks);
       labels = map label_of (block_words work.region work.layout.labels);
-      walk = work.walk.items;
+      walk = map step_of (take work.walk_len (block_words work.region work.layout.walk));
       scratch = drop work.layout.nodes (block_words work.region work.layout.words);
-      queue = map index_of (block_words work.region work.layout.queue);
-      sized = sized-laid work.region work.layout work.marks.items work.walk.items work.full work.one_mark_each work.short_walk;
+      queue = map index_of (block_words work.region work.layout.queue) ++ work.last ∷ [];
+      sized = sized-laid work.region work.layout work.walk_len work.full work.short_walk;
       two_words_each = scratch-laid work.region work.layout work.full;
-      two_slots_each = queue-laid work.region work.layout work.full;
+      two_slots_each = queue-laid work.region work.layout work.last work.full;
     } };
 }
 
 impl Work {
-    ghost use Rattle.std.specs.Prelude.{◌≡◌, ◌+◌, ◌*◌, ◌<◌, ◌≤◌, length, take, slice_index_or, None, IfOk};
+    ghost use Rattle.std.specs.Prelude.{◌≡◌, ◌+◌, ◌*◌, ◌<◌, ◌≤◌, length, take, slice_index_or, vec_capacity, None, IfOk};
     ghost use Rattle.std.specs.Borrow.{sem};
     ghost use Rattle.theory.specs.Network.{«at»};
     ghost use Rattle.theory.specs.Cut.{holds};
@@ -73,8 +72,8 @@ impl Work {
         Ok(Work {
             region,
             layout,
-            marks: vec![in alloc; false; nodes]?,
-            walk: Vec::with_capacity(alloc, nodes)?,
+            walk_len: 0,
+            last: 0,
         })
     }
 
@@ -124,7 +123,7 @@ impl Work {
         requires { node.0 < self.now.nodes }
         ensures { result ≡ holds self.now.reached node.0 }
     {
-        self.marks[node.0 as usize]
+        mark_of(self.region.get(&self.layout.marks, node.0 as usize))
     }
 
     /// The step that the node was labelled by last: after a search, the one that reached it. `search` says where there is none.
@@ -154,30 +153,29 @@ impl Work {
     pub fn walk_len(&self) -> usize
         ensures { result ≡ length self.now.walk }
     {
-        self.walk.len()
+        self.walk_len
     }
 
     pub fn walk_step(&self, k: usize) -> Step
         requires { k < length self.now.walk }
         ensures { result ≡ step self.now.walk k }
     {
-        self.walk[k]
+        step_of(self.region.get(&self.layout.walk, k))
     }
 
     pub fn clear_walk(&mut self)
         ensures { self.new ≡ with_no_walk self.old }
     {
-        self.walk.clear();
+        self.walk_len = 0;
     }
 
     pub fn push_step(&mut self, step: Step)
         requires { length self.old.walk < self.old.nodes }
         ensures { (room : length self.old.walk < self.old.nodes) → self.new ≡ with_step self.old step room }
     {
-        match self.walk.push(step) {
-            Ok(()) => {}
-            Err(_) => unreachable!(),
-        }
+        self.region
+            .set(&self.layout.walk, self.walk_len, word_of(step));
+        self.walk_len += 1;
     }
 
     /// The flows, one for each arc.
@@ -194,17 +192,28 @@ impl Work {
         &self.region.words(&self.layout.words)[..self.layout.nodes]
     }
 
-    /// The marks of the reached nodes, one for each node.
-    pub fn marks(&self) -> &[bool]
-        ensures { result.now ≡ self.now.reached }
+    /// Puts the marks, one for each node, in the place of a list's items; the list has room for them.
+    pub fn put_marks(&self, list: &mut Vec<bool>)
+        requires room { self.now.nodes ≤ vec_capacity list.old }
+        ensures items { list.new.items ≡ self.now.reached }
+        ensures capacity { vec_capacity list.new ≡ vec_capacity list.old }
     {
-        self.marks.as_slice()
+        list.clear();
+        for word in self.region.words(&self.layout.marks) {
+            list.push_reserved(mark_of(*word));
+        }
     }
 
-    pub fn walk(&self) -> &[Step]
-        ensures { result.now ≡ self.now.walk }
+    /// Puts the steps of the walk in the place of a list's items; the list has room for them.
+    pub fn put_walk(&self, list: &mut Vec<Step>)
+        requires room { length self.now.walk ≤ vec_capacity list.old }
+        ensures items { list.new.items ≡ self.now.walk }
+        ensures capacity { vec_capacity list.new ≡ vec_capacity list.old }
     {
-        self.walk.as_slice()
+        list.clear();
+        for word in &self.region.words(&self.layout.walk)[..self.walk_len] {
+            list.push_reserved(step_of(*word));
+        }
     }
 
     /// Lends the potentials with twice as many words behind them, for the caller's own use.
@@ -238,14 +247,22 @@ impl Work {
         requires { k < 2 * self.now.nodes + 1 }
         ensures { result ≡ slice_index_or self.now.queue k 0 }
     {
-        index_of(self.region.get(&self.layout.queue, k))
+        if k < self.layout.nodes * 2 {
+            index_of(self.region.get(&self.layout.queue, k))
+        } else {
+            self.last
+        }
     }
 
     pub fn set_queue(&mut self, k: usize, word: u32)
         requires { k < 2 * self.old.nodes + 1 }
         ensures { self.new ≡ with_queue self.old k word }
     {
-        self.region.set(&self.layout.queue, k, i64::from(word));
+        if k < self.layout.nodes * 2 {
+            self.region.set(&self.layout.queue, k, i64::from(word));
+        } else {
+            self.last = word;
+        }
     }
 
     /// Marks the node as reached, by no step.
@@ -254,7 +271,7 @@ impl Work {
         ensures { self.new ≡ with_mark self.old node.0 }
     {
         let place = node.0 as usize;
-        self.marks[place] = true;
+        self.region.set(&self.layout.marks, place, 1);
     }
 
     /// Reaches one node alone, by no step.
@@ -262,10 +279,10 @@ impl Work {
         requires { root.0 < self.old.nodes }
         ensures { self.new ≡ begun self.old root.0 }
     {
-        self.marks.as_mut_slice().fill(false);
+        self.region.fill(&self.layout.marks, 0);
         self.region.fill(&self.layout.labels, 0);
-        self.walk.clear();
-        self.marks[root.0 as usize] = true;
+        self.walk_len = 0;
+        self.region.set(&self.layout.marks, root.0 as usize, 1);
     }
 
     /// Reaches the node by the step, and adds the step to the walk.
@@ -274,7 +291,7 @@ impl Work {
         requires room { length self.old.walk < self.old.nodes }
         ensures { (room : length self.old.walk < self.old.nodes) → self.new ≡ with_reached self.old node.0 step room }
     {
-        self.marks[node.0 as usize] = true;
+        self.region.set(&self.layout.marks, node.0 as usize, 1);
         self.region
             .set(&self.layout.labels, node.0 as usize, word_of(step));
         self.push_step(step);
@@ -284,6 +301,6 @@ impl Work {
     pub fn turn_walk(&mut self)
         ensures { self.new ≡ with_turned_walk self.old }
     {
-        self.walk.reverse();
+        self.region.reverse(&self.layout.walk, self.walk_len);
     }
 }

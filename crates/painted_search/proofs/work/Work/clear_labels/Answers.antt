@@ -9,5 +9,5 @@ pub returns : goal.returns
 returns c =
     let inside = c.self.inside in
     room-same _ _
-    (labels-cleared inside.region c.fill.new.self inside.layout inside.marks.items inside.walk.items c.fill.ensures
+    (labels-cleared inside.region c.fill.new.self inside.layout inside.walk_len inside.last c.fill.ensures
     ∙ ap (λ (w : Room). lists (unlabelled w)) c.self.view_is)

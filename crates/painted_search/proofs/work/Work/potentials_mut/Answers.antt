@@ -17,7 +17,7 @@ invariant_of-self-inside-lent c = λ w.
     let inside = c.self.inside in
     let xs = inside.region.carved in (
       sym (length_refill (length xs) xs (overlaid inside.layout.words.start w xs) refl) ∙ inside.full,
-      (inside.one_mark_each, (inside.short_walk, (inside.walk_room, tt))),
+      (inside.short_walk, tt),
     )
 
 pub returns : goal.returns
@@ -32,13 +32,16 @@ returns c =
     let words = block_words r l.words in
     let there : l.words.start ≤ length r.carved = omega arith in
     let before : List ℤ → Lists =
-    of_words n l.arcs inside.marks.items inside.walk.items (block_words r l.flows) (block_words r l.labels) (block_words r l.queue) in (
+    of_words n l.arcs inside.walk_len inside.last (block_words r l.flows) (block_words r l.labels) (block_words r l.marks) (block_words r l.walk)
+    (block_words r l.queue) in (
       (
         refl,
         λ w. room-same _ _
-            (of_words-same n l.arcs inside.marks.items inside.walk.items _ _ _ _ _ _ _ _
+            (of_words-same n l.arcs inside.walk_len inside.last _ _ _ _ _ _ _ _ _ _ _ _
             (lent-before r l.words l.flows w (omega arith) there)
             (lent-before r l.words l.labels w (omega arith) there)
+            (lent-before r l.words l.marks w (omega arith) there)
+            (lent-before r l.words l.walk w (omega arith) there)
             (lent-before r l.words l.queue w (omega arith) there)
             (lent-last r l.words w (omega arith))
             ∙ ap (λ k. before (take k (w ++ drop (length w) words))) laid.words_len

@@ -11,6 +11,6 @@ returns c =
     let inside = c.self.inside in
     let l = inside.layout in
     room-same _ _
-    (flows-written inside.region c.set.new.self l inside.marks.items inside.walk.items _ c.set.ensures
+    (flows-written inside.region c.set.new.self l inside.walk_len inside.last _ c.set.ensures
     ∙ ap (λ (w : Room). lists (with_flow w c.args.arc.0 (to_z w64 (of_z w64 c.args.flow)))) c.self.view_is
     ∙ ap (λ x. lists (with_flow c.args.self.now c.args.arc.0 x)) (to_z-of_z fits))

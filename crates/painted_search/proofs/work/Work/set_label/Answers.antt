@@ -11,6 +11,6 @@ returns c =
     let small : c.args.step.arc.0 < 2 ^ 32 = search rules in
     let inside = c.self.inside in
     room-same _ _
-    (label-written inside.region c.set.new.self inside.layout inside.marks.items inside.walk.items c.args.node.0 _ c.args.step c.set.ensures
+    (label-written inside.region c.set.new.self inside.layout inside.walk_len inside.last c.args.node.0 _ c.args.step c.set.ensures
     (to_z-of_z fits ∙ c.word_of.ensures) small
     ∙ ap (λ (w : Room). lists (relabelled w c.args.node.0 c.args.step)) c.self.view_is)

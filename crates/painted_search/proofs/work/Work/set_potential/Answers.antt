@@ -11,7 +11,7 @@ returns c =
     let inside = c.self.inside in
     let there : c.args.node.0 < inside.layout.nodes = rw (ap (λ (w : Room). w.nodes) c.self.view_is) c.requires in
     room-same _ _
-    (potential-written inside.region c.set.new.self inside.layout inside.marks.items inside.walk.items c.args.node.0
+    (potential-written inside.region c.set.new.self inside.layout inside.walk_len inside.last c.args.node.0
     (to_z w64 (of_z w64 c.args.potential)) c.set.ensures there
     ∙ ap (λ (w : Room). lists (with_potential w c.args.node.0 (to_z w64 (of_z w64 c.args.potential)))) c.self.view_is
     ∙ ap (λ u. lists (with_potential c.args.self.now c.args.node.0 u)) (to_z-of_z fits))
