@@ -119,8 +119,8 @@ impl<'a, C: Monotone> Domains<'a, C> {
         ensures count { steps.new ≤ steps.old + length work.now.walk * look_cost }
     {
         let mut room = amount;
-        for step in work.walk() {
-            room = room.min(self.room_of(*step, work, steps));
+        for k in 0..work.walk_len() {
+            room = room.min(self.room_of(work.walk_step(k), work, steps));
         }
         room
     }

@@ -216,7 +216,9 @@ fn finds_cuts(rt: HostRuntime) -> Result<(), Fail> {
     ] {
         let (answer, work) = passed::<Brand>(&rt, nodes, rows, &[], Blank::new(1))?;
         assert_eq!(rt; answer, FlowAns::Cut, "for {rows:?}");
-        assert_eq!(rt; work.marks(), marks, "for {rows:?}");
+        let mut marked = Vec::with_capacity(rt.alloc(), work.nodes())?;
+        work.put_marks(&mut marked);
+        assert_eq!(rt; marked.as_slice(), marks, "for {rows:?}");
     }
     Ok(())
 }

@@ -159,7 +159,9 @@ fn finds_potentials_and_circuits(rt: HostRuntime) -> Result<(), Fail> {
         let (answer, work) = passed::<Brand>(&rt, &net, &curves, Blank::new(1))?;
         assert_eq!(rt; answer, found, "for {arcs:?}");
         assert_eq!(rt; work.potentials(), potentials, "for {arcs:?}");
-        assert_eq!(rt; work.walk(), walk, "for {arcs:?}");
+        let mut steps = Vec::with_capacity(rt.alloc(), work.walk_len())?;
+        work.put_walk(&mut steps);
+        assert_eq!(rt; steps.as_slice(), walk, "for {arcs:?}");
     }
     Ok(())
 }

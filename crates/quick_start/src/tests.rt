@@ -108,24 +108,32 @@ fn drawn<L: Ledger>(
     let mut work = Work::take(rt.alloc(), nodes, arcs)?;
     let mut sketch = Sketch::take(rt.alloc(), nodes, arcs)?;
     let proposal = sketch.draw(&net, curves, fuel, &mut work, &mut steps);
-    Ok((proposal, is_so(rt, &net, curves, &work, proposal)))
+    Ok((proposal, is_so(rt, &net, curves, &work, proposal)?))
 }
 
 /// Whether the room holds what was proposed.
-fn is_so(rt: &impl Abort, net: &Net, curves: &[Curve], work: &Work, proposal: Proposal) -> bool {
-    assert!(rt; work.marks().len() == net.nodes() && curves.len() == net.arcs());
-    match proposal {
+fn is_so(
+    rt: &(impl Abort + AllocGlobal),
+    net: &Net,
+    curves: &[Curve],
+    work: &Work,
+    proposal: Proposal,
+) -> Result<bool, Fail> {
+    assert!(rt; work.nodes() == net.nodes() && curves.len() == net.arcs());
+    let mut side = Vec::with_capacity(rt.alloc(), work.nodes())?;
+    work.put_marks(&mut side);
+    Ok(match proposal {
         Proposal::Pair => {
             is_conserved(rt, net, work) && are_on_curves(rt, net, curves, work, true)
         }
-        Proposal::Cut => match net.cut_sum(curves, work.marks()) {
+        Proposal::Cut => match net.cut_sum(curves, side.as_slice()) {
             Sum::Whole(sum) => sum < 0,
             Sum::Endless(_) => false,
         },
         Proposal::Flow => {
             is_conserved(rt, net, work) && are_on_curves(rt, net, curves, work, false)
         }
-    }
+    })
 }
 
 /// The same of a second draw in the same sketch, one that begins with these flows and potentials.
@@ -160,7 +168,7 @@ fn redrawn<L: Ledger>(
     assert!(rt; work.nodes() == nodes);
     assert!(rt; work.arcs() == arcs);
     let proposal = sketch.redraw(&net, curves, 1000, &mut work, &mut steps);
-    Ok((proposal, is_so(rt, &net, curves, &work, proposal)))
+    Ok((proposal, is_so(rt, &net, curves, &work, proposal)?))
 }
 
 #[test]

@@ -1,7 +1,7 @@
 -- What is still to be sent, from the k-th step on, makes of the flows at hand what the whole walk makes of the flows at the beginning:
 -- a step more takes the first of those that are left. The walk passes no arc twice, so the arcs of the steps that are left carry what they
 -- carried, and the amount fits on top of it.
-use Rattle.std.proofs.Common.{◌≡◌, ℕ, ◌+◌, ◌<◌, ◌≤◌, pos, length, sym, ap, ◌∙◌, get_or-set_other, arith}
+use Rattle.std.proofs.Common.{◌≡◌, ◌<◌, length, sym, ap, ◌∙◌, arith}
 use Rattle.theory.specs.declared.network.Step.{Step}
 use Rattle.theory.specs.Network.{«at»}
 use Rattle.theory.specs.Circuit.{step}

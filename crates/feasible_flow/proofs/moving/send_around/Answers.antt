@@ -1,12 +1,6 @@
 -- The walk doesn't pass the arc of the step, so its arcs carry what they carried once the step has moved its own.
-use Rattle.std.proofs.Common.{◌≡◌, ℕ, zero, suc, ◌<◌, pos, length, sym, ap, ◌∙◌, arith}
-use Rattle.theory.specs.Network.{«at»}
+use Rattle.std.proofs.Common.{suc, sym, arith}
 use Rattle.theory.specs.Circuit.{step}
-use Rattle.theory.specs.Limits.{IsWithin}
-use Rattle.theory.specs.Sent.{sent}
-use Rattle.painted_search.specs.Room.{Room}
-use Rattle.feasible_flow.specs.UnderWay.{ArcsDiffer}
-use Rattle.feasible_flow.specs.Violations.{movable_most}
 use Rattle.feasible_flow.proofs.Sending.{sent-elsewhere_one}
 use Rattle.feasible_flow.proofs.moving.send_around.Goals as goal
 

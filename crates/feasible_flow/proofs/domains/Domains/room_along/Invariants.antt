@@ -6,13 +6,13 @@ use Rattle.feasible_flow.specs.UnderWay.{look_cost}
 use Rattle.feasible_flow.specs.ByLevels.{levels_of}
 use Rattle.feasible_flow.proofs.domains.Domains.room_along.Given as goal
 
-abbrev pub invariant-loop-step : goal.invariant-loop-step
-invariant-loop-step g l = record {
+abbrev pub invariant-loop-k : goal.invariant-loop-k
+invariant-loop-k g l = record {
   some : 1 ≤ l.room;
   most : l.room ≤ l.fn.amount;
-  room : (k : ℕ) → k < l.step-index → (amount : ℕ) → amount ≤ l.room
-      → HasRoom (list_at (levels_of g.C.Monotone.items l.self.level l.self.curves.now) (step l.work.walk k).arc.0) («at» l.work.flows (step l.work.walk k).arc.0)
-      (step l.work.walk k).forward amount;
+  room : (i : ℕ) → i < l.k → (amount : ℕ) → amount ≤ l.room
+      → HasRoom (list_at (levels_of g.C.Monotone.items l.self.level l.self.curves.now) (step l.work.walk i).arc.0) («at» l.work.flows (step l.work.walk i).arc.0)
+      (step l.work.walk i).forward amount;
   no_fewer : l.initial.steps ≤ l.steps;
-  count : l.steps ≤ l.initial.steps + l.step-index * look_cost;
+  count : l.steps ≤ l.initial.steps + l.k * look_cost;
 }
