@@ -105,8 +105,8 @@ impl<'a, C: Monotone> Capacities<'a, C> {
         ensures no_fewer { steps.old ≤ steps.new }
     {
         let mut room = ROOM_MOST;
-        for step in work.walk() {
-            room = room.min(self.room_of(*step, work, steps));
+        for k in 0..work.walk_len() {
+            room = room.min(self.room_of(work.walk_step(k), work, steps));
         }
         room
     }

@@ -94,7 +94,7 @@ fn found_over<L: Ledger>(
         steps,
     ) {
         FlowAns::Flow => carried(alloc, net, &mut work, steps),
-        FlowAns::Cut => refused(alloc, net, work.marks()),
+        FlowAns::Cut => refused(alloc, net, &work),
     }
 }
 
@@ -142,7 +142,7 @@ fn keep_greatest(
 {
     let _net = net;
     let flows = keep_numbers(alloc, work.flows())?;
-    let side = keep_marks(alloc, work.marks())?;
+    let side = keep_marks(alloc, work)?;
     Ok(FlowFound::Greatest { flow, flows, side })
 }
 
@@ -155,20 +155,20 @@ fn keep_open(alloc: Global, net: &Returned, work: &Work) -> Result<FlowFound, Al
 {
     let _net = net;
     let flows = keep_numbers(alloc, work.flows())?;
-    let walk = keep_walk(alloc, work.walk())?;
+    let walk = keep_walk(alloc, work)?;
     Ok(FlowFound::Unbounded { flows, walk })
 }
 
 /// A negative cut with its sum.
-fn refused(alloc: Global, net: &Returned, side: &[bool]) -> Result<FlowFound, AllocError>
-    requires one_each { length side.now ≡ net.now.nodes }
+fn refused(alloc: Global, net: &Returned, work: &Work) -> Result<FlowFound, AllocError>
+    requires nodes { work.now.nodes ≡ net.now.nodes }
     requires one_curve_each { length net.now.curves ≡ length net.now.arcs }
-    requires negative { IsNegativeCut net.now side.now }
+    requires negative { IsNegativeCut net.now work.now.reached }
     ensures found { IfOk result (IsFlowFound net.now) }
     ensures within { IfOk result (FlowsWithin (4 * flow_most)) }
 {
-    let sum = number_of(net.net().cut_sum(net.curves(), side));
-    let side = keep_marks(alloc, side)?;
+    let side = keep_marks(alloc, work)?;
+    let sum = number_of(net.net().cut_sum(net.curves(), side.as_slice()));
     Ok(FlowFound::Refused { side, sum })
 }
 

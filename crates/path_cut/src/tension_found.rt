@@ -14,7 +14,7 @@ use crate::tension::{TensionTop, greatest_tension};
 use feasible_tension::{TensionAns, feasible_tension};
 use ground_net::Grounded;
 use mono_curve::Steps;
-use net_incidence::{Flows, Marks, NodeId, Step, Walk};
+use net_incidence::{Flows, Marks, NodeId, Walk};
 use painted_search::Work;
 use std::alloc::{AllocError, Global};
 use std::sync::ledger::Ledger;
@@ -61,7 +61,7 @@ pub fn tension_between<L: Ledger>(
     let mut work = Work::take(alloc, net.nodes(), net.arcs())?;
     match feasible_tension(net, curves, &mut work, steps) {
         TensionAns::Potential => reached(alloc, g, from, to, &mut work, steps),
-        TensionAns::Circuit => refused(alloc, g, work.walk()),
+        TensionAns::Circuit => refused(alloc, g, &work),
     }
 }
 
@@ -110,7 +110,7 @@ fn keep_greatest(
 {
     let (_g, _ends) = (g, ends);
     let potentials = keep_numbers(alloc, work.potentials())?;
-    let walk = keep_walk(alloc, work.walk())?;
+    let walk = keep_walk(alloc, work)?;
     Ok(TensionFound::Greatest {
         tension,
         potentials,
@@ -133,19 +133,19 @@ fn keep_open(
 {
     let (_g, _ends) = (g, ends);
     let potentials = keep_numbers(alloc, work.potentials())?;
-    let side = keep_marks(alloc, work.marks())?;
+    let side = keep_marks(alloc, work)?;
     Ok(TensionFound::Unbounded { potentials, side })
 }
 
 /// A negative circuit with its span sum.
-fn refused(alloc: Global, g: &Grounded, walk: &[Step]) -> Result<TensionFound, AllocError>
-    requires there { WalkIsThere g.now.network walk.now }
-    requires short { length walk.now < 2 ^ 31 }
-    requires negative { IsNegativeCircuit g.now.network walk.now }
+fn refused(alloc: Global, g: &Grounded, work: &Work) -> Result<TensionFound, AllocError>
+    requires there { WalkIsThere g.now.network work.now.walk }
+    requires short { length work.now.walk < 2 ^ 31 }
+    requires negative { IsNegativeCircuit g.now.network work.now.walk }
     ensures found { (from to : ℕ) → IfOk result (IsTensionFound g.now.network from to) }
     ensures within { (nodes most : ℕ) → IfOk result (PotentialsWithin nodes most) }
 {
-    let sum = number_of(g.net().circuit_sum(g.curves(), walk));
-    let walk = keep_walk(alloc, walk)?;
+    let walk = keep_walk(alloc, work)?;
+    let sum = number_of(g.net().circuit_sum(g.curves(), walk.as_slice()));
     Ok(TensionFound::Refused { walk, sum })
 }

@@ -11,4 +11,4 @@ carried-requires-clause-feasible g c =
 pub refused-requires-clause-negative : goal.refused-requires-clause-negative
 refused-requires-clause-negative g c =
     let is = ap (network c.net-graph.result.now) c.curves-curves.ensures ∙ c.net-graph.ensures in
-    rw c.marks.ensures (cut-of c.net-graph.result.now c.curves-curves.result.now c.args.net.now is c.drawn_or_found.new.work.reached (c.drawn_or_found.ensures.cut c.in-Cut.is))
+    cut-of c.net-graph.result.now c.curves-curves.result.now c.args.net.now is c.drawn_or_found.new.work.reached (c.drawn_or_found.ensures.cut c.in-Cut.is)

@@ -14,7 +14,7 @@ reached-requires-clause-feasible g c =
 pub refused-requires-clause-negative : goal.refused-requires-clause-negative
 refused-requires-clause-negative g c =
     let is = ap (network c.net-net.result.now) c.curves-curves.ensures ∙ c.net-net.ensures in
-    rw c.walk.ensures (circuit-of c.net-net.result.now c.curves-curves.result.now c.args.g.now.network is c.feasible_tension.new.work.walk (c.feasible_tension.ensures.circuit c.in-Circuit.is))
+    circuit-of c.net-net.result.now c.curves-curves.result.now c.args.g.now.network is c.feasible_tension.new.work.walk (c.feasible_tension.ensures.circuit c.in-Circuit.is)
 
 pub returns-clause-found : goal.returns-clause-found
 returns-clause-found g c = c.refused.ensures.found c.args.from.0 c.args.to.0
