@@ -1,7 +1,7 @@
 -- The kind of a valid certificate is the one right kind. What it says refuses flow, or shows a feasible flow and refuses
 -- potentials, or shows both a feasible flow and a feasible potential; of these three no two hold together.
-use Rattle.std.proofs.Common.{◌≡◌, ◌≤◌, refl, sym, subst, arith}
-use Rattle.std.specs.Prelude.{◌↔◌, Result, Ok, Err, IfOk, Option}
+use Rattle.std.proofs.Common.{◌≡◌, ◌≤◌, refl, sym, arith}
+use Rattle.std.specs.Prelude.{◌↔◌, Result, Ok, Err, IfOk}
 use Rattle.theory.specs.Network.{Network, IsNetwork}
 use Rattle.theory.specs.Best.{FlowIsRefused, TensionIsRefused}
 use Rattle.theory.specs.Certificate.{Certificate, BareCertificate, IsValid, IsValidBare}
@@ -16,8 +16,9 @@ use Rattle.cert_text.specs.declared.feasible.FlowPart.{FlowPart}
 use Rattle.cert_text.specs.declared.feasible.FlowPart.TheVariants.{Yes as YesFlow, No as NoFlow}
 use Rattle.cert_text.specs.declared.feasible.TensionPart.{TensionPart}
 use Rattle.cert_text.specs.declared.feasible.TensionPart.TheVariants.{Yes as YesTension, No as NoTension}
+use Rattle.painted_search.specs.Room.{Room}
 use Rattle.kilter_solver.specs.Kind.{IsRightKind}
-use Rattle.kilter_solver.specs.Left.{IsKindFor, IsLeft, kind_of_bare}
+use Rattle.kilter_solver.specs.Left.{IsKindFor, kind_of_bare, left_in}
 use Rattle.kilter_solver.specs.declared.kind.Kind.{Kind}
 use Rattle.kilter_solver.specs.declared.kind.Kind.TheVariants.{Optimal, Cut, Circuit}
 use Rattle.kilter_solver.proofs.Pairs.{pair-flow, pair-potential}
@@ -86,8 +87,10 @@ module _ (net : Network) (good : IsNetwork net) where
         circuit_is = (λ e. (flow, none), λ both. refl);
       }
 
-  pub kind_left : (kind : Kind) (left : Option BareCertificate) → IsLeft net kind left → IsKindFor net kind
-  kind_left kind left (b, is_b, of_kind, valid) = subst (IsKindFor net) of_kind (kind_of_evidence b valid)
+  pub kind_found : (kind : Kind) (room : Room) → IsValidBare net (left_in kind room) → IsKindFor net kind
+  kind_found Optimal room valid = kind_of_evidence (left_in Optimal room) valid
+  kind_found Cut room valid = kind_of_evidence (left_in Cut room) valid
+  kind_found Circuit room valid = kind_of_evidence (left_in Circuit room) valid
 
   pub says_where_certified : (c : Certificate) → IsValid net c → Says net c
   says_where_certified c valid = certificate_says net c good valid

@@ -10,26 +10,27 @@ ghost use Rattle.kilter_solver.specs.Ranges.{end_most};
 
 use mono_curve::{Monotone, Steps};
 use net_incidence::Net;
+use painted_search::Work;
 use std::sync::ledger::Ledger;
 use theory::{ArcId, Ext};
 
-/// Whether the marked nodes are a negative cut. It reads the domain of each arc that crosses the cut, and of no other.
+/// Whether the nodes that the room marks are a negative cut. It reads the domain of each arc that crosses the cut, and of no other.
 pub fn is_negative_cut<C: Monotone, L: Ledger>(
     net: &Net,
     curves: &[C],
-    side: &[bool],
+    work: &Work,
     steps: &mut Steps<L>,
 ) -> bool
     requires passable { IsPassable net.now (length curves.now) }
     requires light { All (λ c. C.weight c ≡ 1) curves.now }
-    requires one_mark_each { length side.now ≡ net.now.nodes }
-    ensures cut { IsTrue result → IsNegativeCut (without_bases net.now (map C.items curves.now)) side.now }
+    requires nodes { work.now.nodes ≡ net.now.nodes }
+    ensures cut { IsTrue result → IsNegativeCut (without_bases net.now (map C.items curves.now)) work.now.reached }
     ensures no_fewer { steps.old ≤ steps.new }
     ensures count { steps.new ≤ steps.old + length net.now.arcs }
 {
     let mut sum = 0i128;
     for j in 0..net.arcs() as u32 {
-        match part_of_arc(net, curves, ArcId(j), side, steps) {
+        match part_of_arc(net, curves, ArcId(j), work, steps) {
             Some(part) => sum += part,
             None => return false,
         }
@@ -42,20 +43,20 @@ fn part_of_arc<C: Monotone, L: Ledger>(
     net: &Net,
     curves: &[C],
     arc: ArcId,
-    side: &[bool],
+    work: &Work,
     steps: &mut Steps<L>,
 ) -> Option<i128>
     requires passable { IsPassable net.now (length curves.now) }
     requires light { All (λ c. C.weight c ≡ 1) curves.now }
     requires there { arc.0 < length net.now.arcs }
-    requires one_mark_each { length side.now ≡ net.now.nodes }
-    ensures value { result ≡ part_of (cut_end (without_bases net.now (map C.items curves.now)) side.now arc.0) }
+    requires nodes { work.now.nodes ≡ net.now.nodes }
+    ensures value { result ≡ part_of (cut_end (without_bases net.now (map C.items curves.now)) work.now.reached arc.0) }
     ensures within { IfSome result (IsWithin end_most) }
     ensures no_fewer { steps.old ≤ steps.new }
     ensures count { steps.new ≤ steps.old + 1 }
 {
-    let at_tail = side[net.from(arc).0 as usize];
-    let at_head = side[net.to(arc).0 as usize];
+    let at_tail = work.reached(net.from(arc));
+    let at_head = work.reached(net.to(arc));
     crossing_part(&curves[arc.0 as usize], at_tail, at_head, steps)
 }
 

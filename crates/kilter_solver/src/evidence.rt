@@ -68,8 +68,8 @@ impl Evidence {
     {
         put(&mut self.flows, work.flows());
         put(&mut self.potentials, work.potentials());
-        put(&mut self.side, work.marks());
-        put(&mut self.walk, work.walk());
+        work.put_marks(&mut self.side);
+        work.put_walk(&mut self.walk);
         self.kind = Some(kind);
     }
 

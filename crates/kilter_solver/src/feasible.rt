@@ -17,7 +17,7 @@ use feasible_flow::{FlowAns, feasible_flow};
 use feasible_tension::{TensionAns, feasible_tension};
 use ground_net::Grounded;
 use mono_curve::Steps;
-use net_incidence::{Flows, Marks, Step, Walk};
+use net_incidence::{Flows, Marks, Walk};
 use painted_search::Work;
 use quick_start::{Proposal, Sketch, fuel_of};
 use std::alloc::{AllocError, Global};
@@ -51,7 +51,7 @@ pub fn feasibility<L: Ledger>(
         Proposal::Pair if is_in_kilter(net, curves, &work, steps) => {
             parts_of_pair(alloc, g, work.flows(), work.potentials())
         }
-        Proposal::Cut if is_negative_cut(net, curves, work.marks(), steps) => {
+        Proposal::Cut if is_negative_cut(net, curves, &work, steps) => {
             parts_with_cut(alloc, g, &mut work, steps)
         }
         _ => both_passes(alloc, g, &mut work, steps),
@@ -91,7 +91,7 @@ fn parts_with_cut<L: Ledger>(
     ensures no_fewer { steps.old ≤ steps.new }
     ensures count { steps.new ≤ steps.old + g.now.network.nodes * length g.now.network.arcs }
 {
-    let flow = no_flow(alloc, g, work.marks())?;
+    let flow = no_flow(alloc, g, work)?;
     let tension = tension_pass(alloc, g, work, steps)?;
     Ok(FeasibleParts { flow, tension })
 }
@@ -135,7 +135,7 @@ fn flow_pass<L: Ledger>(
     let curves = g.curves();
     match feasible_flow(net, curves, work, steps) {
         FlowAns::Flow => yes_flow(alloc, g, work.flows()),
-        FlowAns::Cut => no_flow(alloc, g, work.marks()),
+        FlowAns::Cut => no_flow(alloc, g, work),
     }
 }
 
@@ -156,7 +156,7 @@ fn tension_pass<L: Ledger>(
     let curves = g.curves();
     match feasible_tension(net, curves, work, steps) {
         TensionAns::Potential => yes_tension(alloc, g, work.potentials()),
-        TensionAns::Circuit => no_tension(alloc, g, work.walk()),
+        TensionAns::Circuit => no_tension(alloc, g, work),
     }
 }
 
@@ -170,14 +170,16 @@ fn yes_flow(alloc: Global, g: &Grounded, flows: &[i64]) -> Result<FlowPart, Allo
 }
 
 /// A negative cut with its capacity.
-fn no_flow(alloc: Global, g: &Grounded, side: &[bool]) -> Result<FlowPart, AllocError>
-    requires one_each { length side.now ≡ g.now.network.nodes }
-    requires negative { IsNegativeCut g.now.network side.now }
+fn no_flow(alloc: Global, g: &Grounded, work: &Work) -> Result<FlowPart, AllocError>
+    requires nodes { work.now.nodes ≡ g.now.network.nodes }
+    requires negative { IsNegativeCut g.now.network work.now.reached }
     ensures { IfOk result (IsFlowPart g.now.network) }
 {
-    let capacity = number_of(g.net().cut_sum(g.curves(), side));
+    let mut side = Vec::with_capacity(alloc, work.nodes())?;
+    work.put_marks(&mut side);
+    let capacity = number_of(g.net().cut_sum(g.curves(), side.as_slice()));
     Ok(FlowPart::No {
-        side: Marks::of_vec(side.to_vec(alloc)?),
+        side: Marks::of_vec(side),
         capacity,
     })
 }
@@ -192,14 +194,16 @@ fn yes_tension(alloc: Global, g: &Grounded, potentials: &[i64]) -> Result<Tensio
 }
 
 /// A negative circuit with its span.
-fn no_tension(alloc: Global, g: &Grounded, walk: &[Step]) -> Result<TensionPart, AllocError>
-    requires walk { IsWalkOf g.now.network walk.now }
-    requires negative { IsNegativeCircuit g.now.network walk.now }
+fn no_tension(alloc: Global, g: &Grounded, work: &Work) -> Result<TensionPart, AllocError>
+    requires walk { IsWalkOf g.now.network work.now.walk }
+    requires negative { IsNegativeCircuit g.now.network work.now.walk }
     ensures { IfOk result (IsTensionPart g.now.network) }
 {
-    let span = number_of(g.net().circuit_sum(g.curves(), walk));
+    let mut walk = Vec::with_capacity(alloc, work.walk_len())?;
+    work.put_walk(&mut walk);
+    let span = number_of(g.net().circuit_sum(g.curves(), walk.as_slice()));
     Ok(TensionPart::No {
-        walk: Walk::of_vec(walk.to_vec(alloc)?),
+        walk: Walk::of_vec(walk),
         span,
     })
 }

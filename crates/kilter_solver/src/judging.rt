@@ -40,7 +40,7 @@ pub(crate) fn judge<C: Monotone, L: Ledger>(
 {
     match drawn {
         Proposal::Pair if is_in_kilter(net, curves, work, steps) => Kind::Optimal,
-        Proposal::Cut if is_negative_cut(net, curves, work.marks(), steps) => Kind::Cut,
+        Proposal::Cut if is_negative_cut(net, curves, work, steps) => Kind::Cut,
         _ => pass(net, curves, work, steps),
     }
 }

@@ -118,6 +118,7 @@ impl Prepared {
         requires nodes { self.old.nodes ≡ net.now.nodes }
         requires arcs { self.old.arcs ≡ length net.now.arcs }
         ensures left { IsLeft (without_bases net.now (map C.items curves.now)) result self.new.left }
+        ensures kind { IsKindFor (without_bases net.now (map C.items curves.now)) result }
         ensures nodes { self.new.nodes ≡ self.old.nodes }
         ensures arcs { self.new.arcs ≡ self.old.arcs }
         ensures no_fewer { steps.old ≤ steps.new }

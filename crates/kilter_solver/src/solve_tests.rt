@@ -1,11 +1,13 @@
 // Whole solves of small models: as they are drawn, and by the passes alone. And pairs and cuts that no test may take.
 ghost use Rattle.std.specs.Prelude.{◌≡◌, ◌<◌, IfOk};
+ghost use Rattle.theory.specs.Certificate.{IsValid};
+ghost use Rattle.cert_text.specs.Shown.{shown};
 
 use crate::judging::pass;
 use crate::kind::Kind;
 use crate::tests::{curves_of, net_of};
-use crate::{feasibility, is_in_kilter, is_negative_cut, solve};
-use cert_text::{Certificate, FlowPart, TensionPart};
+use crate::{feasibility, is_in_kilter, is_negative_cut, prepare, solve, solve_in};
+use cert_text::{Certificate, FlowPart, TensionPart, print_cert};
 use ground_net::{Grounded, ground};
 use model_text::read_model;
 use mono_curve::{Ext, Steps};
@@ -44,6 +46,23 @@ fn solved<L: Ledger>(
     Ok(number_of(&solve(rt.alloc(), g, &mut steps)?))
 }
 
+/// The three calls of a solve, one after the other: the kind that is found, and the certificate that is made of it.
+fn solved_in_room<L: Ledger>(
+    rt: &(impl Abort + AllocGlobal),
+    g: &Grounded,
+    blank: Blank,
+) -> Result<(Kind, Certificate), Fail>
+    requires name { blank.name ≡ L.name }
+    requires parts { blank.parts ≡ L.parts }
+    requires some { 0 < blank.parts }
+    ensures { IfOk result (λ found. IsValid g.now.network (shown found.1)) }
+{
+    let mut steps = Steps::<L>::open(blank);
+    let mut prepared = prepare(rt.alloc(), g)?;
+    let kind = solve_in(g.net(), g.curves(), &mut prepared, &mut steps);
+    Ok((kind, prepared.certificate(g)))
+}
+
 /// What is found where nothing is drawn.
 fn passed<L: Ledger>(
     rt: &(impl Abort + AllocGlobal),
@@ -77,7 +96,8 @@ fn found<L: Ledger>(
     ))
 }
 
-/// Solved as it is drawn the model has this kind of certificate with this number, and by the passes alone this kind; and it has these parts.
+/// Solved as it is drawn the model has this kind of certificate with this number, in one call and in three, and by the passes alone
+/// this kind; and it has these parts.
 fn compare(
     rt: &(impl Abort + AllocGlobal),
     text: &[u8],
@@ -86,9 +106,12 @@ fn compare(
 ) -> Result<(), Fail> {
     let g = grounded_of(rt, text)?;
     let drawn = solved::<Brand>(rt, &g, Blank::new(1))?;
+    let (kind, certificate) = solved_in_room::<Brand>(rt, &g, Blank::new(1))?;
     let by_passes = passed::<Brand>(rt, &g, Blank::new(1))?;
     let feasible = found::<Brand>(rt, &g, Blank::new(1))?;
     assert_eq!(rt; drawn, answer);
+    assert_eq!(rt; kind, answer.0);
+    assert_eq!(rt; number_of(&certificate), answer);
     assert_eq!(rt; by_passes, answer.0);
     assert_eq!(rt; feasible, parts);
     Ok(())
@@ -135,6 +158,20 @@ fn solves_as_drawn_and_by_passes(rt: HostRuntime) -> Result<(), Fail> {
     Ok(())
 }
 
+#[test]
+fn prints_what_is_found_in_room(rt: HostRuntime) -> Result<(), Fail> {
+    // 5 units, 4 of them at a price of 2 and one at 5, and each at 2 before: no other pair is optimal.
+    let text = b"network 1\nnode s -inf 2 +inf\nnode t -5\narc a s t 0 2 4 5 10\n".as_slice();
+    let model = read_model(rt.alloc(), text)?;
+    let g = ground(rt.alloc(), &model)?;
+    let (kind, certificate) = solved_in_room::<Brand>(&rt, &g, Blank::new(1))?;
+    assert_eq!(rt; kind, Kind::Optimal);
+    let printed = print_cert(rt.alloc(), &model, &certificate)?;
+    let wanted = b"certificate 1 optimal\ncost 23\nvalue 23\nnode s 2 5\nnode t 7 -5\narc a 5\n";
+    assert_eq!(rt; printed.as_slice(), wanted.as_slice());
+    Ok(())
+}
+
 /// Room for two nodes and two arcs, with these flows and potentials, and the first node marked.
 fn room_of(rt: &impl AllocGlobal, flows: [i64; 2], potentials: [i64; 2]) -> Result<Work, Fail>
     ensures nodes { IfOk result (λ work. work.nodes ≡ 2) }
@@ -170,7 +207,7 @@ fn tested<L: Ledger>(
     assert!(rt; net.nodes() == 2 && net.arcs() == 2 && curves.len() == 2);
     let work = room_of(rt, flows, potentials)?;
     let pair = is_in_kilter(&net, curves.as_slice(), &work, &mut steps);
-    let cut = is_negative_cut(&net, curves.as_slice(), work.marks(), &mut steps);
+    let cut = is_negative_cut(&net, curves.as_slice(), &work, &mut steps);
     Ok((pair, cut))
 }
 

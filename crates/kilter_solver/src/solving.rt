@@ -1,11 +1,12 @@
 // Whole solves: one, or many in the same room.
-ghost use Rattle.std.specs.Prelude.{◌≡◌, ◌+◌, ◌≤◌, length, IfOk};
-ghost use Rattle.theory.specs.Certificate.{IsValid};
+ghost use Rattle.std.specs.Prelude.{◌≡◌, ◌+◌, ◌≤◌, length, Some, IfOk};
+ghost use Rattle.theory.specs.Certificate.{IsValid, bare};
 ghost use Rattle.theory.specs.CertificateLaws.{Says};
 ghost use Rattle.theory.specs.Limits.{level_most};
 ghost use Rattle.theory.specs.ReadingBound.{reading_bound};
 ghost use Rattle.cert_text.specs.Shown.{shown};
 ghost use Rattle.kilter_solver.specs.Kind.{IsRightKind};
+ghost use Rattle.kilter_solver.specs.Left.{IsLeftValid};
 
 use crate::prepared::{Prepared, prepare, resolve_in, solve_in};
 use cert_text::Certificate;
@@ -43,6 +44,8 @@ pub fn solve_kept<L: Ledger>(
     ensures valid { IfOk result (λ c. IsValid g.now.network (shown c)) }
     ensures says { IfOk result (λ c. Says g.now.network (shown c)) }
     ensures kind { IfOk result (λ c. IsRightKind g.now.network (shown c)) }
+    ensures left { IsLeftValid g.now.network prepared.new.left }
+    ensures copied { IfOk result (λ c. prepared.new.left ≡ Some (bare (shown c))) }
     ensures nodes { prepared.new.nodes ≡ prepared.old.nodes }
     ensures arcs { prepared.new.arcs ≡ prepared.old.arcs }
     ensures no_fewer { steps.old ≤ steps.new }
@@ -64,6 +67,8 @@ pub fn resolve_kept<L: Ledger>(
     ensures valid { IfOk result (λ c. IsValid g.now.network (shown c)) }
     ensures says { IfOk result (λ c. Says g.now.network (shown c)) }
     ensures kind { IfOk result (λ c. IsRightKind g.now.network (shown c)) }
+    ensures left { IsLeftValid g.now.network prepared.new.left }
+    ensures copied { IfOk result (λ c. prepared.new.left ≡ Some (bare (shown c))) }
     ensures nodes { prepared.new.nodes ≡ prepared.old.nodes }
     ensures arcs { prepared.new.arcs ≡ prepared.old.arcs }
     ensures no_fewer { steps.old ≤ steps.new }

@@ -178,6 +178,7 @@ fn finds_optimal_pairs_and_cuts(rt: HostRuntime) -> Result<(), Fail> {
     let curves = curves_of(&rt, [cheap, four].as_slice())?;
     let (answer, work) = balanced::<Brand>(&rt, &net, curves.as_slice(), Blank::new(1))?;
     assert_eq!(rt; answer, Balanced::Cut);
-    assert_eq!(rt; work.marks(), [true, false].as_slice());
+    assert_eq!(rt; work.nodes(), 2);
+    assert!(rt; work.reached(NodeId(0)) && !work.reached(NodeId(1)));
     Ok(())
 }

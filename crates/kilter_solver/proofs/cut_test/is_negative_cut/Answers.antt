@@ -10,7 +10,7 @@ use Rattle.kilter_solver.proofs.cut_test.is_negative_cut.Goals as goal
 pub loop-j-preserved : goal.loop-j-preserved
 loop-j-preserved g c =
     let net = without_bases c.args.net.now (map g.C.Monotone.items c.args.curves.now) in
-    let side = c.args.side.now in
+    let side = c.args.work.now.reached in
     let j = c.loop-j.j in
     let part : Some c.in-Some.part ≡ part_of (cut_end net side j) = c.in-Some.ensures.value in
     let near = c.in-Some.ensures.within in

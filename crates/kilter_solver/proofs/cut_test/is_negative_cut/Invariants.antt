@@ -9,8 +9,8 @@ use Rattle.kilter_solver.proofs.cut_test.is_negative_cut.Given as goal
 
 abbrev pub invariant-loop-j : goal.invariant-loop-j
 invariant-loop-j g l = record {
-  finite : (k : ℕ) → k < l.j → IsFinite (cut_end (without_bases l.net (map g.C.Monotone.items l.curves)) l.side k);
-  total : l.sum ≡ sum_below l.j (λ k. whole (cut_end (without_bases l.net (map g.C.Monotone.items l.curves)) l.side k));
+  finite : (k : ℕ) → k < l.j → IsFinite (cut_end (without_bases l.net (map g.C.Monotone.items l.curves)) l.work.reached k);
+  total : l.sum ≡ sum_below l.j (λ k. whole (cut_end (without_bases l.net (map g.C.Monotone.items l.curves)) l.work.reached k));
   within : IsWithin (l.j * end_most) l.sum;
   no_fewer : l.initial.steps ≤ l.steps;
   count : l.steps ≤ l.initial.steps + l.j;

@@ -15,11 +15,12 @@ returns-clause-value g c =
     let items = g.C.Monotone.items in
     let lists = map items curves in
     let net = without_bases c.args.net.now lists in
-    let side = c.args.side.now in
+    let side = c.args.work.now.reached in
     let j = c.args.arc.0 in
     let there : j < length curves = omega (arith, c.requires.passable.one_curve_each) in
     let same : items c.index-curves-arc.result ≡ (curve net j).items =
     ap items c.index-curves-arc.is ∙ list-of items curves c.index-curves-arc.result j there ∙ sym (without_bases-items c.args.net.now lists j) in
     c.crossing_part.ensures.value
-    ∙ ap (λ (l : List Ext). part_of (crossing_end l (holds side c.from.result.0) (holds side c.to.result.0))) same
-    ∙ ap part_of (crossing-at net side j (curve net j) _ _ refl (ap (holds side) c.from.ensures) (ap (holds side) c.to.ensures))
+    ∙ ap (λ (l : List Ext). part_of (crossing_end l c.reached-at_tail.result c.reached-at_head.result)) same
+    ∙ ap part_of (crossing-at net side j (curve net j) _ _ refl (c.reached-at_tail.ensures ∙ ap (holds side) c.from.ensures)
+    (c.reached-at_head.ensures ∙ ap (holds side) c.to.ensures))

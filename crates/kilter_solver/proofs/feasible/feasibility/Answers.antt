@@ -32,8 +32,8 @@ returns-in-Pair-clause-count g c =
 pub parts_with_cut-requires-clause-negative : goal.parts_with_cut-requires-clause-negative
 parts_with_cut-requires-clause-negative g c =
     let is = ap (network c.net-net.result.now) c.curves-curves.ensures ∙ c.net-net.ensures in
-    (cut-of c.net-net.result.now c.curves-curves.result.now c.args.g.now.network is c.draw.new.work.reached
-    (rw c.marks.ensures at (c.is_negative_cut.ensures.cut c.if-is_negative_cut.true)))
+    cut-of c.net-net.result.now c.curves-curves.result.now c.args.g.now.network is c.draw.new.work.reached
+    (c.is_negative_cut.ensures.cut c.if-is_negative_cut.true)
 
 pub returns-in-Cut-clause-flow_kind : goal.returns-in-Cut-clause-flow_kind
 returns-in-Cut-clause-flow_kind g c =

@@ -13,6 +13,5 @@ yes_flow-requires-clause-feasible g c =
 pub no_flow-requires-clause-negative : goal.no_flow-requires-clause-negative
 no_flow-requires-clause-negative g c =
     let is = ap (network c.net-net.result.now) c.curves-curves.ensures ∙ c.net-net.ensures in
-    rw c.marks.ensures
-    (cut-of c.net-net.result.now c.curves-curves.result.now c.args.g.now.network is c.feasible_flow.new.work.reached
-    (c.feasible_flow.ensures.cut c.in-Cut.is))
+    cut-of c.net-net.result.now c.curves-curves.result.now c.args.g.now.network is c.feasible_flow.new.work.reached
+    (c.feasible_flow.ensures.cut c.in-Cut.is)

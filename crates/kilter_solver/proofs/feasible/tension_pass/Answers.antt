@@ -13,6 +13,5 @@ yes_tension-requires-clause-feasible g c =
 pub no_tension-requires-clause-negative : goal.no_tension-requires-clause-negative
 no_tension-requires-clause-negative g c =
     let is = ap (network c.net-net.result.now) c.curves-curves.ensures ∙ c.net-net.ensures in
-    rw c.walk.ensures
-    (circuit-of c.net-net.result.now c.curves-curves.result.now c.args.g.now.network is c.feasible_tension.new.work.walk
-    (c.feasible_tension.ensures.circuit c.in-Circuit.is))
+    circuit-of c.net-net.result.now c.curves-curves.result.now c.args.g.now.network is c.feasible_tension.new.work.walk
+    (c.feasible_tension.ensures.circuit c.in-Circuit.is)

@@ -8,3 +8,6 @@ ghosts-passed g a = record { name = a.blank.name; parts = a.blank.parts }
 
 abbrev pub ghosts-found : goal.ghosts-found
 ghosts-found g a = record { name = a.blank.name; parts = a.blank.parts }
+
+abbrev pub ghosts-solved_in_room : goal.ghosts-solved_in_room
+ghosts-solved_in_room g a = record { name = a.blank.name; parts = a.blank.parts }

@@ -11,6 +11,11 @@ copy_certificate-requires g c =
       left = left-of c.net.result.now c.curves.result.now c.args.g.now.network is c.resolve_in-kind.new.prepared.left c.resolve_in-kind.result c.resolve_in-kind.ensures.left;
     }
 
+pub returns-clause-left : goal.returns-clause-left
+returns-clause-left g c =
+    let is = ap (network c.net.result.now) c.curves.ensures ∙ c.net.ensures in
+    left-of c.net.result.now c.curves.result.now c.args.g.now.network is c.resolve_in-kind.new.prepared.left c.resolve_in-kind.result c.resolve_in-kind.ensures.left
+
 pub returns-clause-says : goal.returns-clause-says
 returns-clause-says g c =
     says_where_valid c.args.g.now.network c.args.g.now.good.is_network c.copy_certificate.result c.copy_certificate.ensures.valid
