@@ -13,7 +13,7 @@ use Rattle.theory.proofs.GroundedLaw.{grounded_is_network, length-grounded_arcs}
 use Rattle.outside_io.specs.Sink.{Grew}
 use Rattle.model_text.specs.Model.{IsWellFormed, node_names, place_of}
 use Rattle.model_text.proofs.FirstPlace.{found as found_at}
-use Rattle.path_cut.specs.GreatestFlow.{return_arc, HasReturn, IsGreatestFlow, FlowHasNoTop}
+use Rattle.path_cut.specs.GreatestFlow.{IsGreatestFlow, FlowHasNoTop}
 use Rattle.path_cut.specs.GreatestTension.{IsGreatestTension, TensionHasNoTop}
 use Rattle.path_cut.specs.Found.{IsFlowFound, IsTensionFound}
 use Rattle.path_cut.specs.Returned.{returned}
@@ -27,7 +27,6 @@ use Rattle.path_cut.proofs.TensionBound.{tension-exact}
 use Rattle.path_cut.proofs.Returns.{returned-arcs, returned-has, returned-network}
 use Rattle.path_cut.proofs.Says.{flow-says, tension-says, flow-lacks, tension-lacks}
 use Rattle.mono_top.specs.Between.{OfNodes, FindsFlow, FindsTension, FlowFits, TensionFits, WalkFits, status_of_flow, status_of_tension}
-use Rattle.mono_top.specs.Causes.{AreNodes}
 use Rattle.mono_top.specs.Headline.{ConcludesFlow, ConcludesTension}
 use Rattle.mono_top.specs.declared.status.Status.{Status}
 use Rattle.mono_top.specs.declared.status.Status.TheVariants.{Done, Cut, Circuit, Unbounded, UnknownNode}

@@ -4,14 +4,17 @@
 use Rattle.std.proofs.Common.{◌≡◌, ◌≢◌, ℕ, ◌+◌, true, false, List, subst, sym, ap, ◌∙◌, refl, Option, Some, None, inl, inr, rules}
 use Rattle.std.proofs.lemmas.Bool.{false≢true}
 use Rattle.std.specs.Option.{ForSome}
-use Rattle.theory.specs.Grounded.{Entries}
+use Rattle.theory.specs.Grounded.{Entries, grounded}
+use Rattle.theory.specs.Certificate.{Certificate}
+use Rattle.theory.specs.Certificate.Certificate.{optimal, cut, circuit}
 use Rattle.outside_io.specs.Files.{Files}
 use Rattle.model_text.specs.declared.fault.FaultWord.{FaultWord}
 use Rattle.model_text.specs.Model.{IsWellFormed, arc_names, node_names, place_of}
 use Rattle.model_text.proofs.SpelledForm.{spelled_is_formed}
 use Rattle.outside_io.specs.Seen.{Outside}
+use Rattle.warm_solve.specs.ChangesText.{IsFirstFault as IsFirstFaultOfChanges}
 use Rattle.mono_top.specs.Answer.{Answers, AnswersModel, behind}
-use Rattle.mono_top.specs.Causes.{Asks, AsksFaulty, AsksInvalid, AsksNoFlow, AsksToCheck, AsksTooBig, AsksToSplit, AsksTrial, AsksUnbounded, AsksUnknownArc, AsksUnknownNode}
+use Rattle.mono_top.specs.Causes.{Asks, AsksFaulty, AsksFaultyChanges, AsksInvalid, AsksNoFlow, AsksToCheck, AsksToResolve, AsksTooBig, AsksToSplit, AsksTrial, AsksUnbounded, AsksUnknownArc, AsksUnknownNode}
 use Rattle.path_cut.specs.declared.flow_found.FlowFound.{FlowFound}
 use Rattle.path_cut.specs.declared.flow_found.FlowFound.TheVariants.{Greatest as GreatestFlow, Unbounded as NoTopFlow, Refused as FlowRefused}
 use Rattle.path_cut.specs.declared.tension_found.TensionFound.{TensionFound}
@@ -20,14 +23,16 @@ use Rattle.mono_top.specs.Between.{FindsFlow, FindsTension, status_of_flow, stat
 use Rattle.mono_top.specs.Checks.{ChecksText}
 use Rattle.mono_top.specs.Due.{IsDue, IsDueOfFiles}
 use Rattle.mono_top.specs.OfModel.{OfModel}
-use Rattle.mono_top.specs.Request.{Request, about_model, about_trial, about_table, Question, solve, check, pieces, show_curve, show_tableau, greatest_flow, greatest_tension, later_files, files_of}
+use Rattle.mono_top.specs.Request.{Request, about_model, about_trial, about_table, Question, solve, check, pieces, resolve, show_curve, show_tableau, greatest_flow, greatest_tension, later_files, files_of}
 use Rattle.mono_top.specs.Reading.{IsOpen, IsOpenFor}
+use Rattle.mono_top.specs.Resolves.{ResolvesText}
 use Rattle.mono_top.specs.ShowsCurve.{ShowsAt}
 use Rattle.mono_top.specs.ShowsPieces.{SplitsText}
+use Rattle.mono_top.specs.Solves.{status_of}
 use Rattle.mono_top.specs.TooBig.{IsTooBigFor}
 use Rattle.mono_top.specs.declared.lines.Place.TheVariants.{First, Second}
 use Rattle.mono_top.specs.declared.status.Status.{Status}
-use Rattle.mono_top.specs.declared.status.Status.TheVariants.{Done, Cut, Rejected, Usage, ModelRefused, Missing, ReadFault, TooLong, TooBig, UnknownArc, NoFlow, Unbounded, UnknownNode, TableRefused}
+use Rattle.mono_top.specs.declared.status.Status.TheVariants.{Done, Cut, Rejected, Usage, ModelRefused, Missing, ReadFault, TooLong, TooBig, UnknownArc, NoFlow, Unbounded, UnknownNode, TableRefused, ChangesRefused}
 use Rattle.mono_top.proofs.CheckLemmas.{IsJudged, judged, invalid_is_rejected, rejected_is_invalid}
 use Rattle.mono_top.proofs.SplitLemmas.{IsSplitAs, flows, flowless, invalid, split_as, invalid_is_rejected as invalid_is_split_rejected, rejected_is_invalid as rejected_is_split_invalid, flowless_is_no_flow, no_flow_is_flowless}
 use Rattle.transport_front.specs.declared.fault.TableWord.{TableWord}
@@ -35,6 +40,7 @@ use Rattle.mono_top.specs.TableFiles.{AsksFaultyTable}
 use Rattle.mono_top.specs.Transports.{AnswersTable}
 use Rattle.mono_top.proofs.TableLemmas.{is_planned, is_unmet, is_refused, status_of_text, of_table_file, faulty_table_always}
 use Rattle.mono_top.proofs.BetweenLemmas.{place_there, of_both, unknown_is_refused, refused_is_unknown, known, flow_kind, tension_kind}
+use Rattle.mono_top.proofs.ResolveLemmas.{last_of, fault_is_told}
 use Rattle.mono_top.proofs.Ends.{ends, not_by, answer_ends, later_due}
 use Rattle.mono_top.proofs.ModelFileLemmas.{IsDueBehind, of_model_file, of_text, reached, next_of_model, fault_is_refused}
 
@@ -361,6 +367,42 @@ unbounded_always request outside status text answers read files told (from, to, 
     let finds = of_both (FindsTension m) status text (place_of (node_names m) from) (place_of (node_names m) to) i k its.1 nodes.0 nodes.1 in
     (tension_kind m (i + 1) (k + 1) its.0 (place_there m from i nodes.0) (place_there m to k nodes.1) status text finds).lacks.1 asks.1
 
+-- ---- changes that are refused
+
+no_refusal : (c : Certificate) (line : ℕ) (word : FaultWord) → status_of c ≢ ChangesRefused line word
+no_refusal (optimal x u cost value) line word is = cc
+no_refusal (cut side capacity) line word is = cc
+no_refusal (circuit x walk span) line word is = cc
+
+faulty_changes_only : (files : Files) (question : Question) (m : Entries) (request : Option Request) (outside : Outside) (status : Status) (text : List ℕ)
+    (line : ℕ) (word : FaultWord) → outside.holds ≡ Some files → Asks files question m request → AnswersModel question outside m status text
+    → ends question (ChangesRefused line word) ≡ true → status ≡ ChangesRefused line word → AsksFaultyChanges files line word request
+faulty_changes_only files (resolve changes) m request outside status text line word told asks reads ended is =
+    let second = of_text Second changes (ResolvesText m) outside status text reads (λ e. cc) (λ e. cc) (λ e. cc) in
+    elim second.next [
+      | inl (at_line, its, fault, refused, said) ↦
+          let line_is : at_line ≡ line = cc in
+          let word_is : its ≡ word = cc in
+          (m, (changes, asks, (second.bytes, second.held files told, second.short, rw (← line_is, ← word_is) fault)))
+      | inr (made, spells, resolves) ↦
+          let last = last_of m 0 (grounded m) made status text resolves in
+          absurd (no_refusal last.certificate line word (sym last.kind ∙ is))
+    ]
+faulty_changes_only files question m request outside status text line word told asks answers ended is = absurd (false≢true ended)
+
+-- the text of a request to resolve is answered, where no fault kept a file from being read
+pub resolved : (P : List ℕ → Type 0) (request : Option Request) (outside : Outside) (status : Status) (text : List ℕ) → Answers request outside status text
+    → status ≢ ReadFault → ForSome outside.holds (λ files. (m : Entries) (asks : AsksToResolve files m P request) → IsWellFormed m × ResolvesText m asks.2.0 status text)
+resolved P request outside status text answers read files told m (changes, asks, second) =
+    let first = answer_of request outside status text answers read files told (resolve changes) m asks in
+    (first.0, reached Second changes (ResolvesText m) (behind asks.0 outside) status text first.1 read files told second.0 second.1 second.2)
+
+faulty_changes_always : (request : Option Request) (outside : Outside) (status : Status) (text : List ℕ) → Answers request outside status text
+    → status ≢ ReadFault → ForSome outside.holds (λ files. (line : ℕ) (word : FaultWord) → AsksFaultyChanges files line word request → status ≡ ChangesRefused line word)
+faulty_changes_always request outside status text answers read files told line word (m, asks) =
+    let its = resolved (λ bytes. IsFirstFaultOfChanges m bytes line word) request outside status text answers read files told m asks in
+    fault_is_told m asks.2.0 line word status text its.1 asks.2.3
+
 -- ---- all of it
 
 pub due : (request : Option Request) (outside : Outside) (status : Status) (text : List ℕ) → Answers request outside status text → IsDue request outside status
@@ -427,5 +469,13 @@ due request outside status text answers =
             let answer = its.answer files told in
             unbounded_only files its.question answer.0 request (behind answer.1.0 outside) status text answer.1 answer.2 (sym (ap (ends its.question) is) ∙ its.ended) is;
         always = λ files told asks silent. inl (unbounded_always request outside status text answers (quiet silent) files told asks);
+      };
+      changes_refused = λ line word. record {
+        only = λ is files told.
+            let its = answered request outside status text answers (search rules) in
+            let answer = its.answer files told in
+            faulty_changes_only files its.question answer.0 request (behind answer.1.0 outside) status text line word told answer.1 answer.2
+            (sym (ap (ends its.question) is) ∙ its.ended) is;
+        always = λ files told asks silent. inl (faulty_changes_always request outside status text answers (quiet silent) files told line word asks);
       };
     }

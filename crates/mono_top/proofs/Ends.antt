@@ -1,8 +1,8 @@
 -- The statuses that the answer to a question may have. A further question is one more line in `ends`, and one in
 -- `answer_ends`; that no other status is due follows for all of them at once.
-use Rattle.std.proofs.Common.{◌≡◌, ◌≢◌, ℕ, ◌+◌, ℤ, Bool, true, false, List, sym, ap, ◌∙◌, refl, Option, Some, None, inl, inr}
+use Rattle.std.proofs.Common.{◌≡◌, ◌≢◌, ℕ, ◌+◌, ℤ, Bool, true, false, List, [], ◌∷◌, sym, ap, ◌∙◌, refl, Option, Some, None, inl, inr}
 use Rattle.std.proofs.lemmas.Bool.{false≢true}
-use Rattle.theory.specs.Grounded.{Entries}
+use Rattle.theory.specs.Grounded.{Entries, grounded}
 use Rattle.theory.specs.Certificate.{Certificate}
 use Rattle.theory.specs.Certificate.Certificate.{optimal, cut, circuit}
 use Rattle.model_text.specs.Model.{arc_names, node_names, place_of}
@@ -21,8 +21,11 @@ use Rattle.path_cut.specs.declared.tension_found.TensionFound.TheVariants.{Great
 use Rattle.mono_top.specs.Between.{OfNodes, FindsFlow, FindsTension, status_of_flow, status_of_tension}
 use Rattle.mono_top.specs.Checks.{ChecksText, status_by}
 use Rattle.mono_top.specs.FindsFeasible.{status_of_parts}
-use Rattle.mono_top.specs.Request.{Question, solve, check, pieces, feasible, show_curve, show_tableau, greatest_flow, greatest_tension, later_files}
+use Rattle.mono_top.specs.Request.{Question, solve, check, pieces, resolve, feasible, show_curve, show_tableau, greatest_flow, greatest_tension, later_files}
 use Rattle.mono_top.specs.Reading.{IsOpenFor}
+use Rattle.warm_solve.specs.ChangesText.{Change}
+use Rattle.theory.specs.Network.{Network}
+use Rattle.mono_top.specs.Resolves.{States, ResolvesText, changed}
 use Rattle.mono_top.specs.ShowsCurve.{ShowsAt}
 use Rattle.mono_top.specs.ShowsPieces.{SplitsText, ShowsBy, ShowsFlow, flow_of}
 use Rattle.mono_top.specs.ShowsTableau.{ShowsTableau}
@@ -30,7 +33,7 @@ use Rattle.mono_top.specs.TooBig.{IsTooBigFor}
 use Rattle.mono_top.specs.Solves.{status_of}
 use Rattle.mono_top.specs.declared.lines.Place.TheVariants.{Second}
 use Rattle.mono_top.specs.declared.status.Status.{Status}
-use Rattle.mono_top.specs.declared.status.Status.TheVariants.{Done, Cut, Circuit, Rejected, Missing, ReadFault, WriteFault, NoMemory, TooLong, TooBig, UnknownArc, NoFlow, Unbounded, UnknownNode}
+use Rattle.mono_top.specs.declared.status.Status.TheVariants.{Done, Cut, Circuit, Rejected, Missing, ReadFault, WriteFault, NoMemory, TooLong, TooBig, UnknownArc, NoFlow, Unbounded, UnknownNode, ChangesRefused}
 use Rattle.mono_top.proofs.ModelFileLemmas.{IsRead, IsDueBehind, of_none, of_last}
 
 -- ---- statuses as tests
@@ -51,6 +54,13 @@ is_splitting Done = true
 is_splitting Rejected = true
 is_splitting NoFlow = true
 is_splitting status = false
+
+abbrev pub is_resolving : Status → Bool
+is_resolving Done = true
+is_resolving Cut = true
+is_resolving Circuit = true
+is_resolving (ChangesRefused line word) = true
+is_resolving status = false
 
 abbrev pub is_showing : Status → Bool
 is_showing Done = true
@@ -92,6 +102,7 @@ abbrev pub ends : Question → Status → Bool
 ends solve = is_kind
 ends (check certificate) = or_refused is_judgement
 ends (pieces certificate) = or_too_big (or_refused is_splitting)
+ends (resolve changes) = or_refused is_resolving
 ends feasible = is_kind
 ends (show_curve arc) = is_showing
 ends show_tableau = or_too_big is_done
@@ -147,6 +158,20 @@ split_ends : (m : Entries) (bytes : List ℕ) (status : Status) (text : List ℕ
 split_ends m bytes status text (inl (line, bad, is, said)) = passes is_splitting status Rejected is refl
 split_ends m bytes status text (inr (c, spelled, (verdict, judges, shows))) = shown_by_ends m c verdict status text shows
 
+kind_resolves : (c : Certificate) → is_resolving (status_of c) ≡ true
+kind_resolves (optimal x u cost value) = refl
+kind_resolves (cut side capacity) = refl
+kind_resolves (circuit x walk span) = refl
+
+states_end : (m : Entries) (count : ℕ) (net : Network) (changes : List Change) (status : Status) (text : List ℕ) → States m count net changes status text
+    → is_resolving status ≡ true
+states_end m count net [] status text (c, valid, kind, is) = passes is_resolving status (status_of c) kind (kind_resolves c)
+states_end m count net (change ∷ changes) status text (c, valid, (rest, is, states)) = states_end m (count + 1) (changed net change) changes status rest states
+
+resolve_ends : (m : Entries) (bytes : List ℕ) (status : Status) (text : List ℕ) → ResolvesText m bytes status text → is_resolving status ≡ true
+resolve_ends m bytes status text (inl (line, word, fault, is, said)) = passes is_resolving status (ChangesRefused line word) is refl
+resolve_ends m bytes status text (inr (changes, spells, states)) = states_end m 0 (grounded m) changes status text states
+
 shows_end : (m : Entries) (at : Option ℕ) (status : Status) (text : List ℕ) → ShowsAt m at status text → is_showing status ≡ true
 shows_end m (Some j) status text shows = passes is_showing status Done shows.0 refl
 shows_end m None status text shows = passes is_showing status UnknownArc shows.0 refl
@@ -199,6 +224,8 @@ answer_ends (check certificate) outside m status text checks =
 answer_ends (pieces certificate) outside m status text answers =
     unless_too_big_ends (or_refused is_splitting) (IsTooBigFor (pieces certificate) m) (ReadsThen Second certificate (SplitsText m) outside) status text
     (later_ends is_splitting certificate (SplitsText m) outside status text (λ bytes its. split_ends m bytes status text its)) answers
+answer_ends (resolve changes) outside m status text reads =
+    later_ends is_resolving changes (ResolvesText m) outside status text (λ bytes its. resolve_ends m bytes status text its) reads
 answer_ends feasible outside m status text finds = passes is_kind status (status_of_parts finds.flow finds.tension) finds.kind (parts_end finds.flow finds.tension)
 answer_ends (show_curve arc) outside m status text shows = shows_end m (place_of (arc_names m) arc) status text shows
 answer_ends show_tableau outside m status text answers =
@@ -232,6 +259,11 @@ later_due (pieces certificate) outside m status text (inr (small, reads)) = inr 
   small,
   of_last (pieces certificate) Second certificate (SplitsText m) outside status text
       (λ bytes its. read_by is_splitting status (split_ends m bytes status text its) refl refl refl refl refl) reads,
+)
+later_due (resolve changes) outside m status text reads = inr (
+  λ big. big,
+  of_last (resolve changes) Second changes (ResolvesText m) outside status text
+      (λ bytes its. read_by is_resolving status (resolve_ends m bytes status text its) refl refl refl refl refl) reads,
 )
 later_due show_tableau outside m status text (inl (big, is, said)) = inl (
   big,

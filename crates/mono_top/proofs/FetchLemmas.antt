@@ -9,7 +9,8 @@ use Rattle.mono_top.specs.Answer.{ReadsThen, AnswersModel, behind}
 use Rattle.mono_top.specs.Checks.{ChecksText}
 use Rattle.mono_top.specs.Fetch.{FetchesModel}
 use Rattle.mono_top.specs.OfModel.{OfModel}
-use Rattle.mono_top.specs.Request.{Question, check, pieces}
+use Rattle.mono_top.specs.Request.{Question, check, pieces, resolve}
+use Rattle.mono_top.specs.Resolves.{ResolvesText}
 use Rattle.mono_top.specs.ShowsPieces.{SplitsText}
 use Rattle.mono_top.specs.declared.fetch.FetchedModel.TheVariants.{Model}
 use Rattle.mono_top.specs.declared.lines.Place.{Place}
@@ -44,4 +45,5 @@ module _ (old mid new : Seen) (first : List ℕ) (moves : Moves old mid) (start 
   answers_whole_call (pieces certificate) m status text (inl refused) = inl refused
   answers_whole_call (pieces certificate) m status text (inr (small, reads)) =
       inr (small, of_whole_call Second certificate (SplitsText m) status text reads)
+  answers_whole_call (resolve changes) m status text reads = of_whole_call Second changes (ResolvesText m) status text reads
   answers_whole_call question m status text answers = answers

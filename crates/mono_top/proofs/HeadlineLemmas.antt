@@ -29,11 +29,11 @@ one_is_one : 1 ≤ 1
 one_is_one = omega arith
 
 -- the cut is the kind that refuses flow, the circuit the kind that has a flow and refuses tension
-record IsKindOf (net : Network) (status : Status) : Type 0 where
-  cut_is : (status ≡ Cut) ↔ FlowIsRefused net
-  circuit_is : (status ≡ Circuit) ↔ ((¬ FlowIsRefused net) × TensionIsRefused net)
+pub record IsKindOf (net : Network) (status : Status) : Type 0 where
+  pub cut_is : (status ≡ Cut) ↔ FlowIsRefused net
+  pub circuit_is : (status ≡ Circuit) ↔ ((¬ FlowIsRefused net) × TensionIsRefused net)
 
-kind_is : (net : Network) (c : Certificate) (status : Status) → Says net c → status ≡ status_of c → IsKindOf net status
+pub kind_is : (net : Network) (c : Certificate) (status : Status) → Says net c → status ≡ status_of c → IsKindOf net status
 kind_is net (optimal x u cost value) status says is = record {
   cut_is = (λ e. absurd cc, λ none. absurd (none 1 x one_is_one says.flow));
   circuit_is = (λ e. absurd cc, λ both. absurd (both.1 1 u one_is_one says.potential));

@@ -5,6 +5,7 @@ pub mod FetchLemmas
 pub mod ModelFileLemmas
 pub mod CheckLemmas
 pub mod BetweenLemmas
+pub mod ResolveLemmas
 pub mod Ends
 pub mod TableLemmas
 pub mod TransportLemmas

@@ -11,7 +11,7 @@ use Rattle.mono_top.specs.Answer.{ReadsThen}
 use Rattle.mono_top.specs.Fetch.{FetchesModel, text_of}
 use Rattle.mono_top.specs.OfModel.{OfModel}
 use Rattle.mono_top.specs.Reading.{IsFileWith, IsModelFile}
-use Rattle.mono_top.specs.Request.{Request, about_model, about_trial, about_table, Question, check, pieces, show_tableau, later_files}
+use Rattle.mono_top.specs.Request.{Request, about_model, about_trial, about_table, Question, check, pieces, resolve, show_tableau, later_files}
 use Rattle.mono_top.specs.TooBig.{IsTooBigFor}
 use Rattle.mono_top.specs.Starts.{StartsFiles, StartsLater}
 use Rattle.mono_top.specs.declared.fetch.FetchedModel.TheVariants.{Model, Refused}
@@ -36,6 +36,7 @@ module _ (old mid new : Seen) (first : List ℕ) (start : mid.log ≡ logged old
   started_later (check certificate) m later = inr (λ big. big, started_further (certificate ∷ []) later)
   started_later (pieces certificate) m (inl (big, none)) = inl (big, none ∙ start)
   started_later (pieces certificate) m (inr (small, later)) = inr (small, started_further (certificate ∷ []) later)
+  started_later (resolve changes) m later = inr (λ big. big, started_further (changes ∷ []) later)
   started_later show_tableau m later = elim (too_big_or_not m) [ inl big ↦ inl (big, later ∙ start) | inr small ↦ inr (small, later ∙ start) ]
   started_later question m later = inr (λ big. big, later ∙ start)
 

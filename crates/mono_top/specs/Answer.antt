@@ -9,10 +9,11 @@ use Rattle.outside_io.specs.Files.{file_of}
 use Rattle.outside_io.specs.Seen.{Outside}
 use Rattle.mono_top.specs.Lines.{usage_line, too_big_line, missing_line, read_fault_line, too_long_line}
 use Rattle.mono_top.specs.Reading.{IsReadPastMost}
-use Rattle.mono_top.specs.Request.{Request, about_model, about_trial, about_table, Question, solve, check, pieces, feasible, show_curve, show_tableau, greatest_flow, greatest_tension}
+use Rattle.mono_top.specs.Request.{Request, about_model, about_trial, about_table, Question, solve, check, pieces, resolve, feasible, show_curve, show_tableau, greatest_flow, greatest_tension}
 use Rattle.mono_top.specs.OfModel.{OfModel}
 use Rattle.mono_top.specs.Between.{Between, FindsFlow, FindsTension}
 use Rattle.mono_top.specs.Checks.{ChecksText}
+use Rattle.mono_top.specs.Resolves.{ResolvesText}
 use Rattle.mono_top.specs.ShowsCurve.{ShowsCurve}
 use Rattle.mono_top.specs.ShowsPieces.{SplitsText}
 use Rattle.mono_top.specs.ShowsTableau.{ShowsTableau}
@@ -57,6 +58,7 @@ AnswersModel solve outside m status text = IsCertified m status text
 AnswersModel (check certificate) outside m status text = ReadsThen Second certificate (ChecksText m) outside status text
 AnswersModel (pieces certificate) outside m status text =
     UnlessTooBig (IsTooBigFor (pieces certificate) m) (ReadsThen Second certificate (SplitsText m) outside) status text
+AnswersModel (resolve changes) outside m status text = ReadsThen Second changes (ResolvesText m) outside status text
 AnswersModel feasible outside m status text = FindsFeasible m status text
 AnswersModel (show_curve arc) outside m status text = ShowsCurve arc m status text
 AnswersModel show_tableau outside m status text = UnlessTooBig (IsTooBigFor show_tableau m) (ShowsTableau m) status text

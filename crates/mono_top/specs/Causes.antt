@@ -9,11 +9,12 @@ use Rattle.model_text.specs.Model.{place_of, arc_names, node_names}
 use Rattle.model_text.specs.ModelText.{Spells, IsFirstFault}
 use Rattle.path_cut.specs.Returned.{returned}
 use Rattle.path_cut.specs.Says.{LacksGreatestFlow, LacksGreatestTension}
+use Rattle.warm_solve.specs.ChangesText.{Change, Spells as SpellsChanges, IsFirstFault as IsFirstFaultOfChanges}
 use Rattle.mono_top.specs.Checks.{IsValidText}
 use Rattle.mono_top.specs.ShowsPieces.{IsFlowlessText}
 use Rattle.mono_top.specs.TooBig.{IsTooBigFor}
 use Rattle.mono_top.specs.Reading.{IsFileWith, AllReadable}
-use Rattle.mono_top.specs.Request.{Request, about_model, about_trial, Question, check, pieces, show_curve, greatest_flow, greatest_tension, files_of}
+use Rattle.mono_top.specs.Request.{Request, about_model, about_trial, Question, check, pieces, resolve, show_curve, greatest_flow, greatest_tension, files_of}
 use Rattle.mono_top.specs.declared.status.Status.{Status}
 use Rattle.mono_top.specs.declared.status.Status.TheVariants.{Done, Usage, Missing, ReadFault, WriteFault, NoMemory, TooLong}
 
@@ -48,6 +49,18 @@ AsksInvalid files request =
 -- `pieces` was asked for, and that text is one of a valid certificate in which there is no flow
 abbrev pub AsksNoFlow : Files → Option Request → Type 0
 AsksNoFlow files request = (m : Entries) × (text : List ℕ) × AsksToSplit files m text request × IsFlowlessText m text
+
+-- `resolve` was asked for: the first file spells this model, and P holds of the second file's text
+abbrev pub AsksToResolve : Files → Entries → (List ℕ → Type 0) → Option Request → Type 0
+AsksToResolve files m P request = (changes : List ℕ) × Asks files (resolve changes) m request × IsFileWith files changes P
+
+-- the text spells these changes
+abbrev pub AsksChanges : Files → Entries → List Change → Option Request → Type 0
+AsksChanges files m changes request = AsksToResolve files m (λ text. SpellsChanges m text changes) request
+
+-- this first fault is the text's
+abbrev pub AsksFaultyChanges : Files → ℕ → FaultWord → Option Request → Type 0
+AsksFaultyChanges files line word request = (m : Entries) × AsksToResolve files m (λ text. IsFirstFaultOfChanges m text line word) request
 
 -- the model is too big for the question
 abbrev pub AsksTooBig : Files → Option Request → Type 0

@@ -1,23 +1,45 @@
--- How often a call reads curves: within the bound of the model that its file spells or its number draws, and else not at all. No bound is
--- stated for a greatest flow.
-use Rattle.std.specs.Prelude.{◌≡◌, ℕ, ◌+◌, ◌≤◌, List, Option, Some, None, IfSome}
+-- How often a call reads curves: within the bound of the model that its file spells or its number draws, and else not at all. With changes it is
+-- within the bound once, and twice more for each of them. No bound is stated for a greatest flow.
+use Rattle.std.specs.Prelude.{◌≡◌, ℕ, ◌+◌, ◌*◌, ◌≤◌, List, length, Option, Some, None, IfSome}
 use Rattle.std.specs.Option.{ForSome}
 use Rattle.theory.specs.Grounded.{Entries, grounded}
 use Rattle.outside_io.specs.Files.{Files}
 use Rattle.model_text.specs.ModelText.{Spells}
+use Rattle.warm_solve.specs.ChangesText.{Change, changes_most, Spells as SpellsChanges}
 use Rattle.mono_top.specs.NetBound.{net_bound}
 use Rattle.mono_top.specs.Reading.{IsFileWith, IsModelFile}
-use Rattle.mono_top.specs.Request.{Request, about_model, about_trial, about_table, Question, solve, feasible, greatest_flow, greatest_tension}
+use Rattle.mono_top.specs.Request.{Request, about_model, about_trial, about_table, Question, solve, resolve, feasible, greatest_flow, greatest_tension}
 use Rattle.mono_top.specs.TableFiles.{ReadsTableFile}
 use Rattle.trial_model.specs.Trial.{trial_entries}
+
+-- of a solve, and of so many changes
+abbrev pub resolve_bound : ℕ → Entries → ℕ
+resolve_bound count m = (2 * count + 1) * net_bound (grounded m)
 
 -- the most readings of a model's curves that a question about it takes, where a bound is stated; one that is not named here takes none
 abbrev pub readings_most : Question → Entries → Option ℕ
 readings_most solve m = Some (net_bound (grounded m))
+readings_most (resolve changes) m = Some (resolve_bound changes_most m)
 readings_most feasible m = Some (net_bound (grounded m))
 readings_most (greatest_flow from to) m = None
 readings_most (greatest_tension from to) m = Some (net_bound (grounded m))
 readings_most question m = Some 0
+
+-- of the changes that the text spells of the model; where it spells none, nothing is read
+pub record ReadsChangesText (m : Entries) (bytes : List ℕ) (before now : ℕ) : Type 0 where
+  pub no_fewer : before ≤ now
+  pub most : now ≤ before + resolve_bound changes_most m
+  pub bounded : (changes : List Change) → SpellsChanges m bytes changes → now ≤ before + resolve_bound (length changes) m
+  pub unread : ((changes : List Change) → SpellsChanges m bytes changes → ⊥) → now ≡ before
+
+-- the same of the text of a file
+pub record ReadsChangesFile (files : Files) (name : List ℕ) (m : Entries) (before now : ℕ) : Type 0 where
+  pub bounded : (changes : List Change) → IsFileWith files name (λ text. SpellsChanges m text changes) → now ≤ before + resolve_bound (length changes) m
+  pub unread : (IsFileWith files name (λ text. (changes : List Change) × SpellsChanges m text changes) → ⊥) → now ≡ before
+
+abbrev pub ReadsChanges : Question → Files → Entries → ℕ → ℕ → Type 0
+ReadsChanges (resolve changes) files m before now = ReadsChangesFile files changes m before now
+ReadsChanges question files m before now = Unit {0}
 
 -- of a model at hand
 pub record ReadsCurves (question : Question) (m : Entries) (before now : ℕ) : Type 0 where
@@ -30,6 +52,7 @@ pub record ReadsWithin (model : List ℕ) (question : Question) (holds : Option 
   pub stays : ((m : Entries) → readings_most question m ≡ Some 0) → now ≡ before
   pub bounded : ForSome holds (λ files. (m : Entries) → IsFileWith files model (λ text. Spells text m)
       → IfSome (readings_most question m) (λ most. now ≤ before + most))
+  pub changes : ForSome holds (λ files. (m : Entries) → IsFileWith files model (λ text. Spells text m) → ReadsChanges question files m before now)
   pub unread : ForSome holds (λ files. ¬ IsModelFile files model → now ≡ before)
 
 abbrev pub CountsReadings : Option Request → Option Files → ℕ → ℕ → Type 0

@@ -6,13 +6,13 @@ use Rattle.outside_io.specs.Whole.{IsTooLong}
 use Rattle.outside_io.specs.Seen.{Outside}
 use Rattle.theory.specs.Limits.{file_most}
 use Rattle.model_text.specs.declared.fault.FaultWord.{FaultWord}
-use Rattle.mono_top.specs.Causes.{AsksFaulty, AsksInvalid, AsksNoFlow, AsksTooBig, AsksTrial, AsksUnbounded, AsksUnknownArc, AsksUnknownNode, ComesBy}
+use Rattle.mono_top.specs.Causes.{AsksFaulty, AsksFaultyChanges, AsksInvalid, AsksNoFlow, AsksTooBig, AsksTrial, AsksUnbounded, AsksUnknownArc, AsksUnknownNode, ComesBy}
 use Rattle.mono_top.specs.TableFiles.{AsksFaultyTable}
 use Rattle.transport_front.specs.declared.fault.TableWord.{TableWord}
 use Rattle.mono_top.specs.Reading.{AllReadable, IsOpen, IsReadPastMost, Reaches}
 use Rattle.mono_top.specs.Request.{Request, files_of}
 use Rattle.mono_top.specs.declared.status.Status.{Status}
-use Rattle.mono_top.specs.declared.status.Status.TheVariants.{Done, Rejected, Usage, ModelRefused, Missing, ReadFault, WriteFault, NoMemory, TooLong, TooBig, UnknownArc, NoFlow, Unbounded, UnknownNode, TableRefused}
+use Rattle.mono_top.specs.declared.status.Status.TheVariants.{Done, Rejected, Usage, ModelRefused, Missing, ReadFault, WriteFault, NoMemory, TooLong, TooBig, UnknownArc, NoFlow, Unbounded, UnknownNode, TableRefused, ChangesRefused}
 
 -- of the files that were to be read, in this order, each behind an open one
 pub record IsDueOfFiles (Opens : Files → List ℕ → Type 0) (names : List (List ℕ)) (outside : Outside) (status : Status) : Type 0 where
@@ -38,3 +38,4 @@ pub record IsDue (request : Option Request) (outside : Outside) (status : Status
   pub unknown_node : ComesBy UnknownNode (λ files. AsksUnknownNode files request) outside status
   pub unbounded : ComesBy Unbounded (λ files. AsksUnbounded files request) outside status
   pub table_refused : (line : ℕ) (word : TableWord) → ComesBy (TableRefused line word) (λ files. AsksFaultyTable files line word request) outside status
+  pub changes_refused : (line : ℕ) (word : FaultWord) → ComesBy (ChangesRefused line word) (λ files. AsksFaultyChanges files line word request) outside status

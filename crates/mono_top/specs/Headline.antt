@@ -5,6 +5,7 @@
 -- is bounded.
 use Rattle.std.specs.Prelude.{◌≡◌, ◌↔◌, ℕ, ℤ, List, Option}
 use Rattle.theory.specs.Grounded.{Entries, grounded}
+use Rattle.theory.specs.Certificate.{Certificate, IsValid}
 use Rattle.theory.specs.Best.{FlowIsRefused, TensionIsRefused}
 use Rattle.theory.specs.CertificateLaws.{Says}
 use Rattle.outside_io.specs.Sink.{Grew}
@@ -13,6 +14,8 @@ use Rattle.path_cut.specs.GreatestTension.{IsGreatestTension, TensionHasNoTop}
 use Rattle.path_cut.specs.Returned.{returned}
 use Rattle.path_cut.specs.Says.{FlowSays, TensionSays}
 use Rattle.mono_top.specs.Between.{FindsFlow, FindsTension}
+use Rattle.warm_solve.specs.ChangesText.{Change}
+use Rattle.mono_top.specs.Resolves.{Resolves, all_changed}
 use Rattle.mono_top.specs.Solves.{IsCertified}
 use Rattle.mono_top.specs.Checks.{IsValidText}
 use Rattle.mono_top.specs.declared.status.Status.{Status}
@@ -25,6 +28,18 @@ pub record Concludes (m : Entries) (status : Status) (old new : Option (List ℕ
   pub says : Says (grounded m) certified.certificate
   pub flow_refused : (status ≡ Cut) ↔ FlowIsRefused (grounded m)
   pub tension_refused : (status ≡ Circuit) ↔ ((¬ FlowIsRefused (grounded m)) × TensionIsRefused (grounded m))
+
+-- A call to `resolve` writes the lines of the states and the text of the last certificate. That one is valid for the network with all changes, and
+-- of its one right kind.
+pub record ConcludesResolve (m : Entries) (changes : List Change) (status : Status) (old new : Option (List ℕ)) : Type 0 where
+  pub text : List ℕ
+  pub resolves : Resolves m changes status text
+  pub written : Grew old new text
+  pub certificate : Certificate
+  pub valid : IsValid (all_changed (grounded m) changes) certificate
+  pub says : Says (all_changed (grounded m) changes) certificate
+  pub flow_refused : (status ≡ Cut) ↔ FlowIsRefused (all_changed (grounded m) changes)
+  pub tension_refused : (status ≡ Circuit) ↔ ((¬ FlowIsRefused (all_changed (grounded m) changes)) × TensionIsRefused (all_changed (grounded m) changes))
 
 -- What a call to `check` concludes of a model and a text: it is accepted exactly where it is the text of a valid
 -- certificate, and then what the certificate says is true.

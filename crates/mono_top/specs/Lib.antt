@@ -16,6 +16,7 @@ pub mod Reading
 pub mod Replies
 pub mod Reports
 pub mod Request
+pub mod Resolves
 pub mod ShowsCurve
 pub mod ShowsPieces
 pub mod ShowsTableau

@@ -46,6 +46,12 @@ word_of Twice = codes "twice"
 word_of Unknown = codes "unknown"
 word_of Loop = codes "loop"
 
--- the first bad line of the model text, with the word for its first fault
+-- the first bad line of the model text, or of a changes text, with the word for its first fault
+abbrev pub fault_line : List ℕ → ℕ → FaultWord → List ℕ
+fault_line opening line word = opening ++ printed_number (pos line) ++ codes ": " ++ word_of word ++ codes "\n"
+
 abbrev pub model_line : ℕ → FaultWord → List ℕ
-model_line line word = codes "model line " ++ printed_number (pos line) ++ codes ": " ++ word_of word ++ codes "\n"
+model_line line word = fault_line (codes "model line ") line word
+
+abbrev pub changes_line : ℕ → FaultWord → List ℕ
+changes_line line word = fault_line (codes "changes line ") line word

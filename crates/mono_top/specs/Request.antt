@@ -7,13 +7,14 @@ use Rattle.mono_top.specs.TrialNumber.{trial_number}
 use Rattle.mono_top.specs.declared.command.Command.{Command}
 use Rattle.mono_top.specs.declared.command.Command.TheVariants.{OnModel, Trial, Transport}
 use Rattle.mono_top.specs.declared.command.Task.{Task}
-use Rattle.mono_top.specs.declared.command.Task.TheVariants.{Solve, Check, Pieces, Feasible, Curve, Tableau, MaxFlow, MaxTension}
+use Rattle.mono_top.specs.declared.command.Task.TheVariants.{Solve, Check, Pieces, Resolve, Feasible, Curve, Tableau, MaxFlow, MaxTension}
 
 -- what may be asked about a model, with the names of the files that are read after the model's, or of an arc, or of two nodes
 pub data Question : Type 0 where
   solve : Question
   check : (certificate : List ℕ) → Question
   pieces : (certificate : List ℕ) → Question
+  resolve : (changes : List ℕ) → Question
   feasible : Question
   show_curve : (arc : List ℕ) → Question
   show_tableau : Question
@@ -42,7 +43,8 @@ request_of (command ∷ word ∷ []) =
 request_of (command ∷ model ∷ other ∷ []) =
     if pointwise nat_eq command (codes "check") then Some (about_model model (check other))
     else (if pointwise nat_eq command (codes "pieces") then Some (about_model model (pieces other))
-    else (if pointwise nat_eq command (codes "curve") then Some (about_model model (show_curve other)) else None))
+    else (if pointwise nat_eq command (codes "resolve") then Some (about_model model (resolve other))
+    else (if pointwise nat_eq command (codes "curve") then Some (about_model model (show_curve other)) else None)))
 request_of (command ∷ model ∷ from ∷ to ∷ []) =
     if pointwise nat_eq from to then None
     else (if pointwise nat_eq command (codes "maxflow") then Some (about_model model (greatest_flow from to))
@@ -67,6 +69,7 @@ IsApartRequest request = Unit {0}
 abbrev pub later_files : Question → List (List ℕ)
 later_files (check certificate) = certificate ∷ []
 later_files (pieces certificate) = certificate ∷ []
+later_files (resolve changes) = changes ∷ []
 later_files question = []
 
 -- the files that are read, in this order
@@ -81,6 +84,7 @@ abbrev pub question_by : Task → Question
 question_by Solve = solve
 question_by (Check certificate) = check certificate.now
 question_by (Pieces certificate) = pieces certificate.now
+question_by (Resolve changes) = resolve changes.now
 question_by Feasible = feasible
 question_by (Curve arc) = show_curve arc.now
 question_by Tableau = show_tableau

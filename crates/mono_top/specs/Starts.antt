@@ -6,7 +6,7 @@ use Rattle.outside_io.specs.Files.{Files}
 use Rattle.outside_io.specs.Seen.{Seen, Outside, logged}
 use Rattle.mono_top.specs.Causes.{Asks}
 use Rattle.mono_top.specs.Reading.{IsOpenFor}
-use Rattle.mono_top.specs.Request.{Request, about_model, about_trial, about_table, Question, check, pieces, later_files, files_of}
+use Rattle.mono_top.specs.Request.{Request, about_model, about_trial, about_table, Question, check, pieces, resolve, later_files, files_of}
 use Rattle.mono_top.specs.TooBig.{IsTooBigFor}
 
 -- the later files are started only where the first one spells a model that is not too big for the question; words that name no file start none
@@ -24,6 +24,7 @@ StartsLater (check certificate) m old new = new.log ≡ logged old.log (certific
 StartsLater (pieces certificate) m old new =
     IsTooBigFor (pieces certificate) m × (new.log ≡ old.log)
     ⊎ (¬ IsTooBigFor (pieces certificate) m) × (new.log ≡ logged old.log (certificate ∷ []))
+StartsLater (resolve changes) m old new = new.log ≡ logged old.log (changes ∷ [])
 StartsLater question m old new = new.log ≡ old.log
 
 -- a question is asked about a file that spells a model, which is not too big for it

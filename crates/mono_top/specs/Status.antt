@@ -1,7 +1,7 @@
 -- The exit code of each status.
 use Rattle.std.specs.Prelude.{ℕ}
 use Rattle.mono_top.specs.declared.status.Status.{Status}
-use Rattle.mono_top.specs.declared.status.Status.TheVariants.{Done, Cut, Circuit, Rejected, Usage, ModelRefused, Missing, ReadFault, WriteFault, NoMemory, TooLong, TooBig, UnknownArc, NoFlow, Unbounded, UnknownNode, TableRefused}
+use Rattle.mono_top.specs.declared.status.Status.TheVariants.{Done, Cut, Circuit, Rejected, Usage, ModelRefused, Missing, ReadFault, WriteFault, NoMemory, TooLong, TooBig, UnknownArc, NoFlow, Unbounded, UnknownNode, TableRefused, ChangesRefused}
 
 abbrev pub code_of : Status → ℕ
 code_of Done = 0
@@ -21,3 +21,4 @@ code_of NoFlow = 15
 code_of Unbounded = 16
 code_of UnknownNode = 17
 code_of (TableRefused line word) = 18
+code_of (ChangesRefused line word) = 19

@@ -1,8 +1,9 @@
 // From the words to the reply: all of the work, and no write.
 ghost use Rattle.std.specs.Prelude.{◌≡◌, [], Some, IfOk, IsErr};
+ghost use Rattle.std.specs.Option.{ForSome};
 ghost use Rattle.outside_io.specs.Seen.{Moves, since};
 ghost use Rattle.mono_top.specs.Answer.{AnswersModel};
-ghost use Rattle.mono_top.specs.CountsReadings.{CountsReadings, ReadsCurves, ReadsWithin};
+ghost use Rattle.mono_top.specs.CountsReadings.{CountsReadings, ReadsChanges, ReadsCurves, ReadsWithin};
 ghost use Rattle.mono_top.specs.Due.{IsDue};
 ghost use Rattle.mono_top.specs.Replies.{Replies, RepliesWith};
 ghost use Rattle.mono_top.specs.Request.{IsApart, about_model, asked, files_of, question_by};
@@ -16,6 +17,7 @@ use crate::fetch::{FetchedModel, fetch_model};
 use crate::lines;
 use crate::pieces::pieces;
 use crate::reply::Reply;
+use crate::resolve::resolve;
 use crate::show_curve::show_curve;
 use crate::show_tableau::show_tableau;
 use crate::solve::solve;
@@ -108,6 +110,8 @@ fn answer<S: Shelf, L: Ledger>(
         (AnswersModel (question_by task.entry) (since (S.seen shelf.old) (S.seen shelf.new))
         model.now.entries) result }
     ensures readings { ReadsCurves (question_by task.entry) model.now.entries steps.old steps.new }
+    ensures changes { ForSome (S.seen shelf.old).holds (λ files.
+        ReadsChanges (question_by task.entry) files model.now.entries steps.old steps.new) }
     ensures later { StartsLater (question_by task.entry) model.now.entries (S.seen shelf.old) (S.seen shelf.new) }
     ensures moves { Moves (S.seen shelf.old) (S.seen shelf.new) }
 {
@@ -115,6 +119,7 @@ fn answer<S: Shelf, L: Ledger>(
         Task::Solve => Ok(solve(alloc, model, steps)?),
         Task::Check { certificate } => Ok(check(alloc, shelf, model, certificate)?),
         Task::Pieces { certificate } => Ok(pieces(alloc, shelf, model, certificate)?),
+        Task::Resolve { changes } => Ok(resolve(alloc, shelf, model, changes, steps)?),
         Task::Feasible => Ok(feasible(alloc, model, steps)?),
         Task::Curve { arc } => Ok(show_curve(alloc, model, arc)?),
         Task::Tableau => Ok(show_tableau(alloc, model)?),

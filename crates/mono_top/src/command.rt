@@ -19,6 +19,7 @@ pub(crate) enum Task<'a> {
     Solve,
     Check { certificate: &'a str },
     Pieces { certificate: &'a str },
+    Resolve { changes: &'a str },
     Feasible,
     Curve { arc: &'a str },
     Tableau,
@@ -86,6 +87,8 @@ fn with_two<'a>(command: &str, model: &'a str, other: &'a str) -> Option<Command
         Task::Check { certificate: other }
     } else if command == "pieces" {
         Task::Pieces { certificate: other }
+    } else if command == "resolve" {
+        Task::Resolve { changes: other }
     } else if command == "curve" {
         Task::Curve { arc: other }
     } else {

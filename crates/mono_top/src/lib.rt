@@ -12,6 +12,7 @@ mod fetch;
 mod lines;
 mod pieces;
 mod reply;
+mod resolve;
 mod show_curve;
 mod show_tableau;
 mod solve;
@@ -38,6 +39,8 @@ mod check_tests;
 mod feasible_tests;
 #[cfg(test)]
 mod pieces_tests;
+#[cfg(test)]
+mod resolve_tests;
 #[cfg(test)]
 mod solve_tests;
 #[cfg(test)]

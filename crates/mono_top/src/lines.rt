@@ -1,6 +1,6 @@
 // The lines that refuse.
 ghost use Rattle.std.specs.Prelude.{◌≡◌, IfOk};
-ghost use Rattle.mono_top.specs.Lines.{usage_line, unknown_arc_line, unknown_node_line, too_big_line, no_flow_line, missing_line, read_fault_line, too_long_line, word_of, model_line};
+ghost use Rattle.mono_top.specs.Lines.{usage_line, unknown_arc_line, unknown_node_line, too_big_line, no_flow_line, missing_line, read_fault_line, too_long_line, word_of, fault_line, model_line, changes_line};
 
 use itoa::Buffer;
 use model_text::FaultWord;
@@ -93,7 +93,28 @@ fn word_of(word: FaultWord) -> &'static [u8]
 pub(crate) fn model_line(alloc: Global, line: u32, word: FaultWord) -> Result<ByteText, AllocError>
     ensures { IfOk result (λ text. text ≡ model_line line word) }
 {
-    let mut out = Vec::from_slice(alloc, b"model line ")?;
+    fault_line(alloc, b"model line ", line, word)
+}
+
+pub(crate) fn changes_line(
+    alloc: Global,
+    line: u32,
+    word: FaultWord,
+) -> Result<ByteText, AllocError>
+    ensures { IfOk result (λ text. text ≡ changes_line line word) }
+{
+    fault_line(alloc, b"changes line ", line, word)
+}
+
+fn fault_line(
+    alloc: Global,
+    opening: &[u8],
+    line: u32,
+    word: FaultWord,
+) -> Result<ByteText, AllocError>
+    ensures { IfOk result (λ text. text ≡ fault_line opening.now line word) }
+{
+    let mut out = Vec::from_slice(alloc, opening)?;
     out.extend_from_slice(Buffer::new().format(line).as_bytes())?;
     out.extend_from_slice(b": ")?;
     out.extend_from_slice(word_of(word))?;

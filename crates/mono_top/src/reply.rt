@@ -1,7 +1,7 @@
 // What a call is to write and how it is to end, decided before the first byte is written.
 ghost use Rattle.std.specs.Prelude.{◌≡◌, IfOk};
 ghost use Rattle.mono_top.specs.Fetch.{text_of};
-ghost use Rattle.mono_top.specs.Lines.{model_line};
+ghost use Rattle.mono_top.specs.Lines.{model_line, changes_line};
 
 use crate::lines;
 use crate::status::Status;
@@ -52,6 +52,17 @@ impl Reply {
         Ok(Reply {
             status: Status::ModelRefused { line, word },
             text: Text::Made(lines::model_line(alloc, line, word)?),
+        })
+    }
+
+    /// The same of a changes text.
+    pub fn bad_change(alloc: Global, line: u32, word: FaultWord) -> Result<Reply, AllocError>
+        ensures status { IfOk result (λ reply. reply.status ≡ Status.ChangesRefused line word) }
+        ensures text { IfOk result (λ reply. text_of reply.text ≡ changes_line line word) }
+    {
+        Ok(Reply {
+            status: Status::ChangesRefused { line, word },
+            text: Text::Made(lines::changes_line(alloc, line, word)?),
         })
     }
 }

@@ -48,7 +48,7 @@ pub(crate) fn certify<L: Ledger>(
 }
 
 /// The status for the kind of the certificate.
-fn status_of(certificate: &Certificate) -> Status
+pub(crate) fn status_of(certificate: &Certificate) -> Status
     ensures { result ≡ status_of (shown certificate.now) }
 {
     match certificate {

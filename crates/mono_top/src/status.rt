@@ -30,6 +30,8 @@ pub enum Status {
     UnknownNode,
     /// The first bad line of the table, counted from 1, and the word for its first fault.
     TableRefused { line: u32, word: TableWord },
+    /// The first bad line of the changes text, counted from 1, and the word for its first fault.
+    ChangesRefused { line: u32, word: FaultWord },
 }
 
 impl Status {
@@ -55,6 +57,7 @@ impl Status {
             Status::Unbounded => 16,
             Status::UnknownNode => 17,
             Status::TableRefused { .. } => 18,
+            Status::ChangesRefused { .. } => 19,
         }
     }
 }

@@ -5,10 +5,11 @@ ghost use Rattle.theory.specs.Grounded.{Entries};
 ghost use Rattle.model_text.specs.declared.fault.FaultWord.{FaultWord as Fault};
 ghost use Rattle.outside_io.specs.Counts.{Rose, Counts};
 ghost use Rattle.outside_io.specs.Seen.{Moves, since};
+ghost use Rattle.warm_solve.specs.ChangesText.{Change};
 ghost use Rattle.mono_top.specs.Answer.{Answers};
-ghost use Rattle.mono_top.specs.Causes.{Asks, AsksFaulty, AsksToCheck, AsksInvalid, AsksNoFlow, AsksTooBig, AsksTrial, AsksUnbounded, AsksUnknownArc, AsksUnknownNode, AreNodes, ComesAlways, ComesBy, EndsTrial, IsAnswerable, IsUnhindered, GoesThrough};
+ghost use Rattle.mono_top.specs.Causes.{Asks, AsksChanges, AsksFaulty, AsksFaultyChanges, AsksToCheck, AsksInvalid, AsksNoFlow, AsksTooBig, AsksTrial, AsksUnbounded, AsksUnknownArc, AsksUnknownNode, AreNodes, ComesAlways, ComesBy, EndsTrial, IsAnswerable, IsUnhindered, GoesThrough};
 ghost use Rattle.mono_top.specs.CountsReadings.{CountsReadings};
-ghost use Rattle.mono_top.specs.Headline.{Concludes, ConcludesCheck, ConcludesFeasible, ConcludesFlow, ConcludesTension};
+ghost use Rattle.mono_top.specs.Headline.{Concludes, ConcludesCheck, ConcludesFeasible, ConcludesFlow, ConcludesTension, ConcludesResolve};
 ghost use Rattle.mono_top.specs.Ending.{WritesDue, WritesPart};
 ghost use Rattle.mono_top.specs.Reading.{ReachesMissing, ReachesPastMost, ReachesTooLong, HoldsFirst};
 ghost use Rattle.mono_top.specs.Request.{asked, files_of, solve, feasible, greatest_flow, greatest_tension};
@@ -55,6 +56,11 @@ pub fn run<S: Shelf, K: Sink, L: Ledger>(
     // Whether there are a flow and a potential that are feasible, over any fractions.
     ensures feasible { IsUnhindered result → ForSome (S.seen shelf.old).holds (λ files. (m : Entries)
         → Asks files feasible m (asked words.now) → ConcludesFeasible m result) }
+
+    // What a model comes to after each of its changes.
+    ensures resolve { IsUnhindered result → ForSome (S.seen shelf.old).holds (λ files. (m : Entries) (changes : List Change)
+        → AsksChanges files m changes (asked words.now)
+        → ConcludesResolve m changes result (K.written out.old) (K.written out.new)) }
 
     // A greatest flow and a greatest tension between two nodes, over all fractions, or why there is none.
     ensures maxflow { IsUnhindered result → ForSome (S.seen shelf.old).holds (λ files. (m : Entries) (from to : List ℕ) (i k : ℕ)
@@ -107,6 +113,9 @@ pub fn run<S: Shelf, K: Sink, L: Ledger>(
         (since (S.seen shelf.old) (S.seen shelf.new)) result }
     ensures table_refused { (line : ℕ) (word : TableFault) → ComesBy (Status.TableRefused line word)
         (λ files. AsksFaultyTable files line word (asked words.now))
+        (since (S.seen shelf.old) (S.seen shelf.new)) result }
+    ensures changes_refused { (line : ℕ) (word : Fault) → ComesBy (Status.ChangesRefused line word)
+        (λ files. AsksFaultyChanges files line word (asked words.now))
         (since (S.seen shelf.old) (S.seen shelf.new)) result }
     ensures write_fault { result ≡ Status.WriteFault → Rose (K.faults out.old) (K.faults out.new) }
     ensures no_memory { result ≡ Status.NoMemory → IsSome (asked words.now) }

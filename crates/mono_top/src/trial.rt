@@ -83,7 +83,7 @@ fn append_value(out: &mut Vec<u8>, value: i128) -> Result<(), AllocError>
 }
 
 /// The value, the capacity or the span.
-fn number_of(certificate: &Certificate) -> i128
+pub(crate) fn number_of(certificate: &Certificate) -> i128
     ensures { result ≡ number_of (shown certificate.now) }
 {
     match certificate {

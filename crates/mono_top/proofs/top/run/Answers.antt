@@ -3,10 +3,12 @@ use Rattle.outside_io.specs.Seen.{since}
 use Rattle.outside_io.specs.Sink.{Grew}
 use Rattle.mono_top.specs.Fetch.{text_of}
 use Rattle.model_text.specs.Model.{node_names, place_of}
+use Rattle.warm_solve.specs.ChangesText.{Spells as SpellsChanges}
 use Rattle.mono_top.specs.Between.{FindsFlow, FindsTension}
 use Rattle.mono_top.specs.Request.{asked, solve, feasible, greatest_flow, greatest_tension}
 use Rattle.mono_top.proofs.BetweenLemmas.{of_both, place_there, concludes_flow, concludes_tension}
-use Rattle.mono_top.proofs.DueLemmas.{answer_of, checked}
+use Rattle.mono_top.proofs.DueLemmas.{answer_of, checked, resolved}
+use Rattle.mono_top.proofs.ResolveLemmas.{resolves_of, concludes_resolve}
 use Rattle.mono_top.proofs.StartLemmas.{starved_by}
 use Rattle.mono_top.proofs.HeadlineLemmas.{concludes, concludes_check, concludes_feasible}
 use Rattle.mono_top.proofs.TableLemmas.{table_answer, concludes_table}
@@ -60,6 +62,16 @@ returns-in-All-clause-maxtension g c unhindered files told m from to i k asks no
     let finds = of_both (FindsTension m) c.in-Ok.reply.status (text_of c.in-Ok.reply.text) (place_of (node_names m) from) (place_of (node_names m) to) i k its.1 nodes.0 nodes.1 in
     concludes_tension m (i + 1) (k + 1) its.0 (place_there m from i nodes.0) (place_there m to k nodes.1) c.in-Ok.reply.status (text_of c.in-Ok.reply.text)
     (g.K.Sink.written c.args.out.now) (g.K.Sink.written c.write_all.new.out) finds grew
+
+pub returns-in-All-clause-resolve : goal.returns-in-All-clause-resolve
+returns-in-All-clause-resolve g c unhindered files told m changes asks =
+    let outside = since (g.S.Shelf.seen c.args.shelf.now) (g.S.Shelf.seen c.reply_to.new.shelf) in
+    let grew : Grew (g.K.Sink.written c.args.out.now) (g.K.Sink.written c.write_all.new.out) (text_of c.in-Ok.reply.text) =
+    rw (← c.as_slice.ensures) (c.write_all.ensures.all c.in-All.is) in
+    let its = resolved (λ bytes. SpellsChanges m bytes changes) (asked c.args.words.now) outside c.in-Ok.reply.status (text_of c.in-Ok.reply.text)
+    c.in-Ok.ensures.replies unhindered.read files told m asks in
+    concludes_resolve m asks.2.0 changes c.in-Ok.reply.status (text_of c.in-Ok.reply.text) (g.K.Sink.written c.args.out.now) (g.K.Sink.written c.write_all.new.out)
+    its.0 asks.2.3 (resolves_of m asks.2.0 changes c.in-Ok.reply.status (text_of c.in-Ok.reply.text) its.1 asks.2.3) grew
 
 -- a call starves where its work does
 pub returns-in-Err-clause-starts : goal.returns-in-Err-clause-starts
