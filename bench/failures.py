@@ -79,11 +79,12 @@ def each_write_fails(sandbox, tally, words, whole, most):
 def each_call(sandbox, tally):
     for words, names in COMMANDS:
         right = sandbox.run(words)
-        tally.require(f"{words}: status {right.status}", right.status == 0)
+        # that there is no greatest tension is an answer too
+        tally.require(f"{words}: status {right.status}", right.status in (0, 16))
         lengths = [os.path.getsize(sandbox.path(name)) for name in names]
         for most in (1 << 20, 1):
             whole = sandbox.torn(words, most=most)
-            tally.compare(f"{words}: {most} bytes each", whole, 0, right.written)
+            tally.compare(f"{words}: {most} bytes each", whole, right.status, right.written)
             each_read_fails(sandbox, tally, words, whole, lengths, min(most, 4096))
             each_write_fails(sandbox, tally, words, whole, most)
         each_start_fails(sandbox, tally, words, sandbox.torn(words))

@@ -20,7 +20,8 @@ NOT_STARTED = 127
 
 def refuse_each(sandbox, tally, words):
     whole = sandbox.torn(words)
-    tally.compare(f"{words[0]}, no request refused", whole, 0, sandbox.run(words).written)
+    plain = sandbox.run(words)
+    tally.compare(f"{words[0]}, no request refused", whole, plain.status, plain.written)
     spared = 0
     for at in range(1, whole.counts["memory"] + 1):
         ended = sandbox.torn(words, "memory", at, "12")

@@ -12,6 +12,7 @@ KINDS = ("open", "read", "write", "memory")
 MODEL = b"network 1\nnode s -inf 2 +inf\nnode t -5\narc a s t 0 2 4 5 10\n"
 CERTIFICATE = b"certificate 1 optimal\ncost 23\nvalue 23\nnode s 2 5\nnode t 7 -5\narc a 5\n"
 TABLE = b"transport 1\nplant p 5 2 9 4\nshop q 6\nlane a p q 9 1\n"
+CHANGES = b"changes 1\narc a 0 2 4 5 20\nnode t -2\n"
 # each command over files of the sandbox, with the files that it reads, in order
 COMMANDS = (
     (("solve", "model"), ("model",)),
@@ -23,6 +24,7 @@ COMMANDS = (
     (("maxflow", "model", "s", "t"), ("model",)),
     (("maxtension", "model", "s", "t"), ("model",)),
     (("transport", "table"), ("table",)),
+    (("resolve", "model", "changes"), ("model", "changes")),
     (("trial", "1"), ()),
 )
 
@@ -48,7 +50,7 @@ class Ended:
 
 
 class Sandbox:
-    """A folder with a copy of the program, a model, its certificate and a table; it is removed at the end."""
+    """A folder with a copy of the program, a model, its certificate, a table and changes of the model; it is removed at the end."""
 
     def __enter__(self):
         self.folder = tempfile.mkdtemp(prefix="monotropic-")
@@ -63,6 +65,7 @@ class Sandbox:
         self.put("model", MODEL)
         self.put("certificate", CERTIFICATE)
         self.put("table", TABLE)
+        self.put("changes", CHANGES)
         return self
 
     def __exit__(self, *_):
