@@ -1,7 +1,7 @@
 -- The parts of a line: its keyword, its names, and what stands behind them; and the words of a list, read in turn.
 use Rattle.std.specs.Prelude.{◌≡◌, ℕ, ◌+◌, ◌-◌, ◌++◌, ◌<◌, min, Bool, true, false, not, ◌||◌, nat_lt, is_none, unwrap_or, pos, if◌then◌else◌, Option, None, Some, List, [], ◌∷◌, length, take, drop, map, codes, refl}
 use Rattle.std.specs.Borrow.{Bor}
-use Rattle.std.specs.List.{position_or_len, list_all, list_any}
+use Rattle.std.specs.List.{position_or_len, list_all}
 use Rattle.std.specs.Str.{bytes_eq}
 use Rattle.std.specs.Option.{option_map}
 use Rattle.std.proofs.Common.{arith, sym, ◌∙◌, ap, get_or, append_assoc}
@@ -11,9 +11,11 @@ use Rattle.std.proofs.lemmas.Slice.Eq.{bytes_eq-Decides}
 use Rattle.model_text.specs.declared.fault.FaultWord.TheVariants.{Number}
 use Rattle.model_text.specs.declared.line.Kind.{Kind}
 use Rattle.model_text.specs.declared.line.Kind.TheVariants.{Node, Arc}
-use Rattle.model_text.specs.ModelText.{is_node_line, is_arc_line, is_base_word, word_at, line_names, names_wanted, part_list, from_base, part_items, part_base, lacks_names, first_fault}
+use Rattle.model_text.specs.ModelText.{is_node_line, is_arc_line, is_base_word, word_at, line_names, names_wanted, part_list, from_base, items_of, lack_items, part_items, part_base, lacks_names, first_fault}
+use Rattle.model_text.specs.Scale.{cost_decimals}
+use Rattle.model_text.specs.declared.scale.Scale.{Scale}
 use Rattle.model_text.specs.Names.{is_name}
-use Rattle.model_text.specs.NumberWords.{item_of, number_of}
+use Rattle.model_text.specs.NumberWords.{item_of, fixed_of}
 use Rattle.model_text.specs.NearNumbers.{near_item, near_number}
 use Rattle.theory.specs.declared.ext.Ext.{Ext}
 use Rattle.theory.specs.declared.ext.Ext.TheVariants.{MinusInf}
@@ -96,79 +98,68 @@ based-is part based count count-is is = ap texts is ∙ drop-texts count part �
 
 -- ---- the tests of a line, on its parts
 
-list_any-texts : (p : List ℕ → Bool) (words : List (Bor (List ℕ))) → list_any (λ word. p word.now) words ≡ list_any p (texts words)
-list_any-texts p [] = refl
-list_any-texts p (word ∷ words) = ap (λ b. p word.now || b) (list_any-texts p words)
-
 pub lacks_names-is : {words part : List (List ℕ)} {kind : Kind} (names : List (Bor (List ℕ))) → AreParts words kind (texts names) part
     → lacks_names words ≡ (nat_lt (length names) (if is_node kind then 1 else 3) || not (list_all (λ word. is_name word.now) names))
 unfolding lacks_names
 lacks_names-is names parts =
     rw (← parts.names, parts.node, list_all-map is_name (λ word. word.now) names, length-map) refl
 
-abbrev pub lacks_item : Bor (List ℕ) → Bool
-lacks_item word = is_none (item_of word.now)
-
-abbrev pub near_of : Bor (List ℕ) → Ext
-near_of word = near_item (unwrap_or (item_of word.now) MinusInf)
-
-near-items : (list : List (Bor (List ℕ)))
-    → map (λ word. near_item (unwrap_or (item_of word.now) MinusInf)) list ≡ map near_item (map (λ word. unwrap_or (item_of word) MinusInf) (texts list))
-near-items [] = refl
-near-items (word ∷ list) = ap (λ items. near_item (unwrap_or (item_of word.now) MinusInf) ∷ items) (near-items list)
-
 -- what was read of the list of a part
-pub items-near : (part list : List (Bor (List ℕ))) → texts list ≡ part_list (texts part) → map near_of list ≡ map near_item (part_items (texts part))
+pub items-near : (s : Scale) (part list : List (Bor (List ℕ))) → texts list ≡ part_list (texts part)
+    → map near_item (items_of s.flow s.tension (texts list)) ≡ map near_item (part_items s (texts part))
 unfolding part_items
-items-near part list is = near-items list ∙ ap (λ listed. map near_item (map (λ word. unwrap_or (item_of word) MinusInf) listed)) is
+items-near s part list is = ap (λ listed. map near_item (items_of s.flow s.tension listed)) is
 
-pub base-near : (part based : List (Bor (List ℕ))) → texts based ≡ from_base (texts part)
-    → near_number (unwrap_or (number_of (word_at (texts based) 1)) (pos 0)) ≡ near_number (part_base (texts part))
+pub base-near : (s : Scale) (part based : List (Bor (List ℕ))) → texts based ≡ from_base (texts part)
+    → near_number (unwrap_or (fixed_of (cost_decimals s) (word_at (texts based) 1)) (pos 0)) ≡ near_number (part_base s (texts part))
 unfolding part_base
-base-near part based is = ap (λ words. near_number (unwrap_or (number_of (word_at words 1)) (pos 0))) is
+base-near s part based is = ap (λ words. near_number (unwrap_or (fixed_of (cost_decimals s) (word_at words 1)) (pos 0))) is
 
 pub list-length : (part list : List (Bor (List ℕ))) → texts list ≡ part_list (texts part) → length (part_list (texts part)) ≡ length list
 list-length part list is = sym (ap length is) ∙ length-map list (λ word. word.now)
 
 -- ---- the words of a list, read one after the other
 
-module _ (words : List (Bor (List ℕ))) (k : ℕ) (d : Bor (List ℕ)) (below : k < length words) where
+module _ (here next : ℕ) (words : List (Bor (List ℕ))) (k : ℕ) (d : Bor (List ℕ)) (below : k < length words) where
+  texts-more : texts (drop k words) ≡ (get_or words k d).now ∷ texts (drop (k + 1) words)
+  texts-more = ap texts (drop_more words k d below)
+
   -- a word that is an item
-  pub test-passed : (e : Ext) → option_map near_item (item_of (get_or words k d).now) ≡ Some e
-      → list_any lacks_item (drop (k + 1) words) ≡ list_any lacks_item (drop k words)
-  test-passed e is = sym (ap (list_any lacks_item) (drop_more words k d below) ∙ some-by (item_of (get_or words k d).now) is)
+  pub test-passed : (e : Ext) → option_map near_item (item_of here (get_or words k d).now) ≡ Some e
+      → lack_items next here (texts (drop (k + 1) words)) ≡ lack_items here next (texts (drop k words))
+  test-passed e is = sym (ap (lack_items here next) texts-more ∙ some-by (item_of here (get_or words k d).now) is)
     where
       some-by : (found : Option Ext) → option_map near_item found ≡ Some e
-          → (is_none found || list_any lacks_item (drop (k + 1) words)) ≡ list_any lacks_item (drop (k + 1) words)
+          → (is_none found || lack_items next here (texts (drop (k + 1) words))) ≡ lack_items next here (texts (drop (k + 1) words))
       some-by None is = cc
       some-by (Some x) is = refl
 
-  pub item-added : (items : List Ext) (e : Ext) → option_map near_item (item_of (get_or words k d).now) ≡ Some e
-      → (items ++ e ∷ []) ++ map near_of (drop (k + 1) words) ≡ items ++ map near_of (drop k words)
+  pub item-added : (items : List Ext) (e : Ext) → option_map near_item (item_of here (get_or words k d).now) ≡ Some e
+      → (items ++ e ∷ []) ++ map near_item (items_of next here (texts (drop (k + 1) words))) ≡ items ++ map near_item (items_of here next (texts (drop k words)))
   item-added items e is =
-      append_assoc items (e ∷ []) (map near_of (drop (k + 1) words))
-      ∙ ap (λ x. items ++ x ∷ map near_of (drop (k + 1) words)) (sym (item-by (item_of (get_or words k d).now) is))
-      ∙ ap (λ rest. items ++ map near_of rest) (sym (drop_more words k d below))
+      append_assoc items (e ∷ []) (map near_item (items_of next here (texts (drop (k + 1) words))))
+      ∙ ap (λ x. items ++ x ∷ map near_item (items_of next here (texts (drop (k + 1) words)))) (sym (item-by (item_of here (get_or words k d).now) is))
+      ∙ ap (λ rest. items ++ map near_item (items_of here next rest)) (sym texts-more)
     where
       item-by : (found : Option Ext) → option_map near_item found ≡ Some e → near_item (unwrap_or found MinusInf) ≡ e
       item-by None is = cc
       item-by (Some x) is = cc
 
   -- a word that is none
-  pub test-failed : option_map near_item (item_of (get_or words k d).now) ≡ None → list_any lacks_item (drop k words) ≡ true
-  test-failed none = ap (list_any lacks_item) (drop_more words k d below) ∙ none-by (item_of (get_or words k d).now) none
+  pub test-failed : option_map near_item (item_of here (get_or words k d).now) ≡ None → lack_items here next (texts (drop k words)) ≡ true
+  test-failed none = ap (lack_items here next) texts-more ∙ none-by (item_of here (get_or words k d).now) none
     where
       none-by : (found : Option Ext) → ◌≡◌ {A = Option Ext} (option_map near_item found) None
-          → (is_none found || list_any lacks_item (drop (k + 1) words)) ≡ true
+          → (is_none found || lack_items next here (texts (drop (k + 1) words))) ≡ true
       none-by None none = refl
       none-by (Some x) none = cc
 
 -- what the test of a list says of the words that were read
-pub list-fails : (words : List (Bor (List ℕ))) → list_any lacks_item words ≡ true → first_fault (item_tests (texts words)) ≡ Some Number
-list-fails words fails = rw (sym (list_any-texts (λ word. is_none (item_of word)) words) ∙ fails) refl
+pub list-fails : (s : Scale) (words : List (List ℕ)) → lack_items s.flow s.tension words ≡ true → first_fault (item_tests s words) ≡ Some Number
+list-fails s words fails = rw fails refl
 
-pub list-passes : (words : List (Bor (List ℕ))) → list_any lacks_item words ≡ false → first_fault (item_tests (texts words)) ≡ None
-list-passes words passes = rw (sym (list_any-texts (λ word. is_none (item_of word)) words) ∙ passes) refl
+pub list-passes : (s : Scale) (words : List (List ℕ)) → lack_items s.flow s.tension words ≡ false → first_fault (item_tests s words) ≡ None
+list-passes s words passes = rw passes refl
 
 -- what a read past the end would give
 abbrev pub nothing : Bor (List ℕ)

@@ -8,10 +8,9 @@ use Rattle.std.proofs.lemmas.List.{take_all, drop_all, drop_more}
 use Rattle.std.proofs.lemmas.List.Folds.{list_any-append}
 use Rattle.std.proofs.lemmas.List.Splits.{slice_split_first, slice_split-cons_no, length-slice_split}
 use Rattle.std.proofs.lemmas.List.Sums.{prefix_len-le-length}
-use Rattle.model_text.specs.Model.{no_entries}
 use Rattle.model_text.specs.Lines.{text_lines, line_words, without_empty_end}
+use Rattle.model_text.specs.ModelText.{nothing, progress_of, with_words, has_words, fault_at, first_fault, line_tests}
 use Rattle.model_text.proofs.ListTests.{or-none}
-use Rattle.model_text.specs.ModelText.{entries_of, with_line, has_words, fault_at, first_fault, line_tests}
 
 -- ---- the first line of a text
 
@@ -76,18 +75,18 @@ module _ (lines : List (List ℕ)) (k : ℕ) (line : List ℕ) (others : List (L
   pub front-after : take (k + 1) lines ≡ take k lines ++ line ∷ []
   front-after = (take_at_read lines k [] here).1 ∙ ap (λ l. take k lines ++ l ∷ []) line-is
 
-  pub entries-after : entries_of (take (k + 1) lines) ≡ with_line (entries_of (take k lines)) (line_words line)
-  unfolding entries_of
-  entries-after =
-      ap (fold (λ m l. with_line m (line_words l)) no_entries) front-after
-      ∙ fold-append (λ m l. with_line m (line_words l)) no_entries (take k lines) (line ∷ [])
+  pub progress-after : progress_of (take (k + 1) lines) ≡ with_words (progress_of (take k lines)) (line_words line)
+  unfolding progress_of
+  progress-after =
+      ap (fold (λ progress l. with_words progress (line_words l)) nothing) front-after
+      ∙ fold-append (λ progress l. with_words progress (line_words l)) nothing (take k lines) (line ∷ [])
 
   pub words-after : list_any has_words (take (k + 1) lines) ≡ (list_any has_words (take k lines) || has_words line)
   words-after =
       ap (list_any has_words) front-after ∙ list_any-append has_words (take k lines) (line ∷ [])
       ∙ ap (λ b. list_any has_words (take k lines) || b) (or-none (has_words line))
 
-  pub fault-here : fault_at lines k ≡ first_fault (line_tests (list_any has_words (take k lines)) (entries_of (take k lines)) line)
+  pub fault-here : fault_at lines k ≡ first_fault (line_tests (progress_of (take k lines)) line)
   unfolding fault_at
   fault-here = rw line-is refl
 

@@ -1,16 +1,12 @@
 -- Digits read one after the other, where a value past the limit stays the first one past it.
-use Rattle.std.specs.Prelude.{◌≡◌, ℕ, ◌+◌, ◌-◌, ◌*◌, ◌<◌, min, true, ◌&&◌, List, [], ◌∷◌, length, drop}
+use Rattle.std.specs.Prelude.{◌≡◌, ℕ, ◌+◌, ◌-◌, ◌*◌, ◌<◌, min, Bool, true, false, ◌&&◌, List, [], ◌∷◌, ◌++◌, length, drop, refl}
 use Rattle.std.specs.Str.{all_ascii_digits}
 use Rattle.std.specs.Str.Parse.{digits_value_after}
 use Rattle.std.specs.Char.{digit_value, is_ascii_digit}
 use Rattle.std.proofs.Common.{arith, sym, ◌∙◌, ap, get_or}
 use Rattle.std.proofs.lemmas.List.{drop_more}
 use Rattle.theory.specs.Limits.{number_most}
-use Rattle.model_text.specs.NearNumbers.{near_digits}
-
--- what digits after those of a number give
-abbrev pub near_after : ℕ → List ℕ → ℕ
-near_after n digits = near_digits (digits_value_after 10 n digits)
+use Rattle.model_text.specs.NearNumbers.{near_digits, near_after}
 
 -- a number past the limit stays past it
 after-min : (n : ℕ) (digits : List ℕ)
@@ -35,3 +31,20 @@ near-step n i digits below is =
 pub digits-drop : (i : ℕ) (digits : List ℕ) → i < length digits
     → all_ascii_digits (drop i digits) ≡ is_ascii_digit (get_or digits i 0) && all_ascii_digits (drop (i + 1) digits)
 digits-drop i digits below = ap all_ascii_digits (drop_more digits i 0 below)
+
+-- ---- digits in two parts
+
+pub value-append : (n : ℕ) (xs ys : List ℕ) → digits_value_after 10 n (xs ++ ys) ≡ digits_value_after 10 (digits_value_after 10 n xs) ys
+value-append n [] ys = refl
+value-append n (d ∷ xs) ys = value-append (n * 10 + digit_value d) xs ys
+
+pub near-append : (n : ℕ) (xs ys : List ℕ) → near_after (near_after n xs) ys ≡ near_after n (xs ++ ys)
+near-append n xs ys = after-min (digits_value_after 10 n xs) ys ∙ ap near_digits (sym (value-append n xs ys))
+
+and-assoc : (a b c : Bool) → (a && (b && c)) ≡ ((a && b) && c)
+and-assoc true b c = refl
+and-assoc false b c = refl
+
+pub digits-append : (xs ys : List ℕ) → all_ascii_digits (xs ++ ys) ≡ (all_ascii_digits xs && all_ascii_digits ys)
+digits-append [] ys = refl
+digits-append (d ∷ xs) ys = rw (digits-append xs ys) (and-assoc (is_ascii_digit d) (all_ascii_digits xs) (all_ascii_digits ys))

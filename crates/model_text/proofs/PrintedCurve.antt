@@ -1,5 +1,5 @@
 -- The words of a printed curve read back as the curve, and pass the tests of a list.
-use Rattle.std.specs.Prelude.{◌≡◌, ℕ, zero, suc, ◌+◌, ◌-◌, ◌<◌, ◌==◌, nat_lt, ℤ, pos, Bool, true, false, not, ◌&&◌, ◌||◌, if◌then◌else◌, is_none, unwrap_or, List, [], ◌∷◌, ◌++◌, length, map, take, drop, codes, refl}
+use Rattle.std.specs.Prelude.{◌≡◌, ℕ, zero, suc, ◌+◌, ◌-◌, ◌<◌, ◌==◌, nat_lt, ℤ, pos, Bool, true, false, not, ◌&&◌, ◌||◌, if◌then◌else◌, unwrap_or, List, [], ◌∷◌, ◌++◌, length, take, drop, codes, refl}
 use Rattle.std.specs.List.{list_any, zip, position_or_len}
 use Rattle.std.specs.Ordering.{int_eq}
 use Rattle.std.proofs.Common.{arith, ◌∙◌, sym, ap, get_or, length-take, length-drop}
@@ -12,11 +12,12 @@ use Rattle.theory.specs.Ends.{whole, is_finite, is_below, IsFinite, IsBelow}
 use Rattle.theory.specs.Limits.{AreWithin, number_most, IsWithin}
 use Rattle.theory.specs.declared.ext.Ext.{Ext}
 use Rattle.theory.specs.declared.ext.Ext.TheVariants.{MinusInf, At, PlusInf}
-use Rattle.model_text.specs.ModelText.{is_base_word, is_over, are_over, is_no_base, is_misplaced, is_minus_inf, is_plus_inf, has_fall, word_at}
-use Rattle.model_text.specs.NumberWords.{number_of, item_of}
-use Rattle.model_text.specs.Printed.{printed_number, printed_list, printed_base}
+use Rattle.model_text.specs.ModelText.{items_of, lack_items, is_base_word, is_over, are_over, is_no_base, is_misplaced, is_minus_inf, is_plus_inf, has_fall, word_at}
+use Rattle.model_text.specs.NumberWords.{fixed_of}
+use Rattle.model_text.specs.Printed.{printed_fixed, printed_list, printed_base}
 use Rattle.model_text.proofs.ListTests.{none-by}
-use Rattle.model_text.proofs.PrintedWords.{item-read, item-plain, item-no-base, number-read, number-plain, small-by}
+use Rattle.model_text.proofs.PrintedWords.{item-read, item-plain, item-no-base, number-read, number-plain}
+use Rattle.model_text.proofs.FixedNumbers.{small-by}
 use Rattle.model_text.proofs.PrintedLines.{ArePlain, no_more, one_more}
 
 -- ---- the list
@@ -27,57 +28,62 @@ front-within e items within = within 0 (omega arith)
 rest-within : (e : Ext) (items : List Ext) → AreWithin number_most (e ∷ items) → AreWithin number_most items
 rest-within e items within k below = within (suc k) (omega arith)
 
-pub list-read : (items : List Ext) → AreWithin number_most items → map (λ word. unwrap_or (item_of word) MinusInf) (printed_list items) ≡ items
-list-read [] within = refl
-list-read (e ∷ items) within = rw (item-read e (front-within e items within), list-read items (rest-within e items within)) refl
+pub list-read : (here next : ℕ) (items : List Ext) → AreWithin number_most items → items_of here next (printed_list here next items) ≡ items
+list-read here next [] within = refl
+list-read here next (e ∷ items) within = rw (item-read here e (front-within e items within), list-read next here items (rest-within e items within)) refl
 
-pub list-items : (items : List Ext) → AreWithin number_most items → list_any (λ word. is_none (item_of word)) (printed_list items) ≡ false
-list-items [] within = refl
-list-items (e ∷ items) within = rw (item-read e (front-within e items within)) (list-items items (rest-within e items within))
+pub list-items : (here next : ℕ) (items : List Ext) → AreWithin number_most items → lack_items here next (printed_list here next items) ≡ false
+list-items here next [] within = refl
+list-items here next (e ∷ items) within = rw (item-read here e (front-within e items within)) (list-items next here items (rest-within e items within))
 
-pub list-plain : (items : List Ext) → AreWithin number_most items → ArePlain (printed_list items)
-list-plain [] within = no_more
-list-plain (e ∷ items) within = one_more (item-plain e (front-within e items within)) (list-plain items (rest-within e items within))
+pub list-plain : (here next : ℕ) (items : List Ext) → AreWithin number_most items → ArePlain (printed_list here next items)
+list-plain here next [] within = no_more
+list-plain here next (e ∷ items) within = one_more (item-plain here e (front-within e items within)) (list-plain next here items (rest-within e items within))
+
+pub list-count : (here next : ℕ) (items : List Ext) → length (printed_list here next items) ≡ length items
+list-count here next [] = refl
+list-count here next (e ∷ items) = ap suc (list-count next here items)
 
 -- ---- the base
 
-pub base-plain : (base : ℤ) → IsWithin number_most base → ArePlain (printed_base base)
-base-plain base within =
-    elim (int_eq base (pos 0)) as (λ b. ArePlain (if b then [] else (codes "base" ∷ printed_number base ∷ []))) [
-      | true ↦ no_more
-      | false ↦ one_more (record { plain = refl; some = omega arith }) (one_more (number-plain base within) no_more)
-    ]
+module _ (decimals : ℕ) (base : ℤ) where
+  pub base-plain : IsWithin number_most base → ArePlain (printed_base decimals base)
+  base-plain within =
+      elim (int_eq base (pos 0)) as (λ b. ArePlain (if b then [] else (codes "base" ∷ printed_fixed decimals base ∷ []))) [
+        | true ↦ no_more
+        | false ↦ one_more (record { plain = refl; some = omega arith }) (one_more (number-plain decimals base within) no_more)
+      ]
 
-pub base-is-one : (base : ℤ) → IsWithin number_most base → is_no_base (printed_base base) ≡ false
-base-is-one base within =
-    elim (int_eq base (pos 0)) as (λ b. is_no_base (if b then [] else (codes "base" ∷ printed_number base ∷ [])) ≡ false) [
-      | true ↦ refl
-      | false ↦ rw (number-read base within) refl
-    ]
+  pub base-is-one : IsWithin number_most base → is_no_base decimals (printed_base decimals base) ≡ false
+  base-is-one within =
+      elim (int_eq base (pos 0)) as (λ b. is_no_base decimals (if b then [] else (codes "base" ∷ printed_fixed decimals base ∷ [])) ≡ false) [
+        | true ↦ refl
+        | false ↦ rw (number-read decimals base within) refl
+      ]
 
-pub base-read : (base : ℤ) → IsWithin number_most base → unwrap_or (number_of (word_at (printed_base base) 1)) (pos 0) ≡ base
-base-read base within =
-    elim (int_eq base (pos 0)) as (λ b. int_eq base (pos 0) ≡ b → unwrap_or (number_of (word_at (if b then [] else (codes "base" ∷ printed_number base ∷ [])) 1)) (pos 0) ≡ base) [
-      | true ↦ λ zero_base. sym ((Decides-int_eq base (pos 0)).0 zero_base)
-      | false ↦ λ other. rw (number-read base within) refl
-    ] refl
+  pub base-read : IsWithin number_most base → unwrap_or (fixed_of decimals (word_at (printed_base decimals base) 1)) (pos 0) ≡ base
+  base-read within =
+      elim (int_eq base (pos 0)) as (λ b. int_eq base (pos 0) ≡ b → unwrap_or (fixed_of decimals (word_at (if b then [] else (codes "base" ∷ printed_fixed decimals base ∷ [])) 1)) (pos 0) ≡ base) [
+        | true ↦ λ zero_base. sym ((Decides-int_eq base (pos 0)).0 zero_base)
+        | false ↦ λ other. rw (number-read decimals base within) refl
+      ] refl
 
 -- ---- where the list ends
 
-base-first : (base : ℤ) → position_or_len is_base_word (printed_base base) ≡ 0
-base-first base =
-    elim (int_eq base (pos 0)) as (λ b. position_or_len is_base_word (if b then [] else (codes "base" ∷ printed_number base ∷ [])) ≡ 0) [ true ↦ refl | false ↦ refl ]
+base-first : (decimals : ℕ) (base : ℤ) → position_or_len is_base_word (printed_base decimals base) ≡ 0
+base-first decimals base =
+    elim (int_eq base (pos 0)) as (λ b. position_or_len is_base_word (if b then [] else (codes "base" ∷ printed_fixed decimals base ∷ [])) ≡ 0) [ true ↦ refl | false ↦ refl ]
 
-pub list-ends : (items : List Ext) (base : ℤ) → AreWithin number_most items
-    → position_or_len is_base_word (printed_list items ++ printed_base base) ≡ length (printed_list items)
-list-ends [] base within = base-first base
-list-ends (e ∷ items) base within =
-    rw (item-no-base e (front-within e items within), list-ends items base (rest-within e items within)) (omega arith)
+pub list-ends : (here next decimals : ℕ) (items : List Ext) (base : ℤ) → AreWithin number_most items
+    → position_or_len is_base_word (printed_list here next items ++ printed_base decimals base) ≡ length (printed_list here next items)
+list-ends here next decimals [] base within = base-first decimals base
+list-ends here next decimals (e ∷ items) base within =
+    rw (item-no-base here e (front-within e items within), list-ends next here decimals items base (rest-within e items within)) (omega arith)
 
 -- ---- the tests of a list, from what every curve list keeps
 
 not-over : (z : ℤ) → IsWithin number_most z → is_over z ≡ false
-not-over z within = let small = small-by z within in grind (arith, nat_tests)
+not-over z within = let small = small-by number_most z within in grind (arith, nat_tests)
 
 pub within-small : (items : List Ext) → AreWithin number_most items → are_over items ≡ false
 within-small items within =

@@ -12,7 +12,8 @@ use Rattle.std.proofs.lemmas.Str.Ascii.{IsAscii-from_all}
 use Rattle.model_text.specs.Lines.{text_lines, without_empty_end, content, line_words, is_blank}
 use Rattle.model_text.specs.Printed.{spaced}
 use Rattle.model_text.proofs.LinesLemmas.{end-more}
-use Rattle.model_text.proofs.PrintedWords.{IsPlain, is_plain, all-so}
+use Rattle.model_text.proofs.PrintedWords.{IsPlain}
+use Rattle.model_text.proofs.FixedNumbers.{is_plain, all-so}
 use Rattle.model_text.proofs.SoundLines.{both, all-at}
 
 -- bytes of a printed line: words and the spaces between them

@@ -13,6 +13,7 @@ use Rattle.theory.specs.Grounded.{Entries}
 use Rattle.theory.specs.Limits.{nodes_most, arcs_most}
 use Rattle.model_text.specs.Model.{node_names, arc_names, place_of, node_fault, arc_fault, with_node, with_arc}
 use Rattle.model_text.specs.Names.{is_name}
+use Rattle.model_text.specs.declared.scale.Scale.{Scale}
 use Rattle.model_text.specs.ModelText.{first_fault, entry_tests, word_at, names_wanted, is_node_line, is_arc_line, line_names, line_items, line_listing, lacks_names, lacks_numbers, is_beyond, is_full, is_misshapen, has_fall, is_twice, is_unknown, is_loop, with_line}
 use Rattle.model_text.proofs.FirstPlace.{found, none_there}
 use Rattle.model_text.proofs.ListTests.{neither, false-unless}
@@ -23,15 +24,15 @@ pub passes : {W : Type 0} (b : Bool) (word : W) (others : Option W) → (if b th
 passes true word others none = cc
 passes false word others none = (refl, none)
 
-pub record PassesAlone (words : List (List ℕ)) : Type 0 where
+pub record PassesAlone (s : Scale) (words : List (List ℕ)) : Type 0 where
   pub names : lacks_names words ≡ false
-  pub numbers : lacks_numbers words ≡ false
-  pub limit : is_beyond words ≡ false
+  pub numbers : lacks_numbers s words ≡ false
+  pub limit : is_beyond s words ≡ false
 
-pub record PassesTogether (m : Entries) (words : List (List ℕ)) : Type 0 where
+pub record PassesTogether (s : Scale) (m : Entries) (words : List (List ℕ)) : Type 0 where
   pub room : is_full m words ≡ false
-  pub shape : is_misshapen words ≡ false
-  pub order : has_fall (line_items words) ≡ false
+  pub shape : is_misshapen s words ≡ false
+  pub order : has_fall (line_items s words) ≡ false
   pub once : is_twice m words ≡ false
   pub known : is_unknown m words ≡ false
   pub apart : is_loop words ≡ false
@@ -41,20 +42,20 @@ yes true is = refl
 yes false is = cc
 
 -- a line after the header that fails no test
-pub record PassesAll (m : Entries) (words : List (List ℕ)) : Type 0 where
+pub record PassesAll (s : Scale) (m : Entries) (words : List (List ℕ)) : Type 0 where
   pub keyword : (is_node_line words || is_arc_line words) ≡ true
-  pub alone : PassesAlone words
-  pub together : PassesTogether m words
+  pub alone : PassesAlone s words
+  pub together : PassesTogether s m words
 
-pub passes_all : (m : Entries) (words : List (List ℕ)) → first_fault (entry_tests m words) ≡ None → PassesAll m words
-passes_all m words none =
+pub passes_all : (s : Scale) (m : Entries) (words : List (List ℕ)) → first_fault (entry_tests s m words) ≡ None → PassesAll s m words
+passes_all s m words none =
     let keyword = passes (not (is_node_line words || is_arc_line words)) _ _ none in
     let names = passes (lacks_names words) _ _ keyword.1 in
-    let numbers = passes (lacks_numbers words) _ _ names.1 in
-    let limit = passes (is_beyond words) _ _ numbers.1 in
+    let numbers = passes (lacks_numbers s words) _ _ names.1 in
+    let limit = passes (is_beyond s words) _ _ numbers.1 in
     let room = passes (is_full m words) _ _ limit.1 in
-    let shape = passes (is_misshapen words) _ _ room.1 in
-    let order = passes (has_fall (line_items words)) _ _ shape.1 in
+    let shape = passes (is_misshapen s words) _ _ room.1 in
+    let order = passes (has_fall (line_items s words)) _ _ shape.1 in
     let once = passes (is_twice m words) _ _ order.1 in
     let known = passes (is_unknown m words) _ _ once.1 in
     let apart = passes (is_loop words) _ _ known.1 in
@@ -91,9 +92,9 @@ first_is_name words none =
 
 -- ---- room
 
-pub node_free : (m : Entries) (words : List (List ℕ)) → is_node_line words ≡ true → PassesTogether m words → node_fault m (word_at words 1) ≡ None
+pub node_free : (s : Scale) (m : Entries) (words : List (List ℕ)) → is_node_line words ≡ true → PassesTogether s m words → node_fault m (word_at words 1) ≡ None
 unfolding is_twice is_full
-node_free m words node passes =
+node_free s m words node passes =
     let once : is_some (place_of (node_names m) (word_at words 1)) ≡ false = rw node at passes.once in
     let room : nat_le nodes_most (length m.nodes) ≡ false = rw node at (neither (is_node_line words && nat_le nodes_most (length m.nodes)) _ passes.room).0 in
     rw (once, room) refl
@@ -113,10 +114,10 @@ module _ (names : List (List ℕ)) (one other : List ℕ) where
       let yes = (bytes_eq-Decides one other).1 equal in
       cc
 
-pub arc_free : (m : Entries) (words : List (List ℕ)) (from to : ℕ) → is_node_line words ≡ false → is_arc_line words ≡ true → PassesTogether m words
+pub arc_free : (s : Scale) (m : Entries) (words : List (List ℕ)) (from to : ℕ) → is_node_line words ≡ false → is_arc_line words ≡ true → PassesTogether s m words
     → place_of (node_names m) (word_at words 2) ≡ Some from → place_of (node_names m) (word_at words 3) ≡ Some to → arc_fault m (word_at words 1) from to ≡ None
 unfolding is_twice is_full is_loop
-arc_free m words from to node arc passes tail head =
+arc_free s m words from to node arc passes tail head =
     let once : is_some (place_of (arc_names m) (word_at words 1)) ≡ false = rw node at passes.once in
     let room : nat_le arcs_most (length m.arcs) ≡ false = rw arc at (neither _ (is_arc_line words && nat_le arcs_most (length m.arcs)) passes.room).1 in
     let apart : bytes_eq (word_at words 2) (word_at words 3) ≡ false = rw arc at passes.apart in
@@ -175,12 +176,12 @@ node_there m name place is = rw (length-map) at (found (bytes_eq name) (node_nam
 
 -- ---- what is added
 
-pub adds_node : (m : Entries) (words : List (List ℕ)) → is_node_line words ≡ true → with_line m words ≡ with_node m (word_at words 1) (line_listing words)
+pub adds_node : (s : Scale) (m : Entries) (words : List (List ℕ)) → is_node_line words ≡ true → with_line s m words ≡ with_node m (word_at words 1) (line_listing s words)
 unfolding with_line
-adds_node m words node = rw node refl
+adds_node s m words node = rw node refl
 
-pub adds_arc : (m : Entries) (words : List (List ℕ)) (from to : ℕ) → is_node_line words ≡ false → is_arc_line words ≡ true
+pub adds_arc : (s : Scale) (m : Entries) (words : List (List ℕ)) (from to : ℕ) → is_node_line words ≡ false → is_arc_line words ≡ true
     → place_of (node_names m) (word_at words 2) ≡ Some from → place_of (node_names m) (word_at words 3) ≡ Some to
-    → with_line m words ≡ with_arc m (word_at words 1) from to (line_listing words)
+    → with_line s m words ≡ with_arc m (word_at words 1) from to (line_listing s words)
 unfolding with_line
-adds_arc m words from to node arc tail head = rw (node, arc, tail, head) refl
+adds_arc s m words from to node arc tail head = rw (node, arc, tail, head) refl

@@ -1,8 +1,8 @@
 -- A list that passes the tests of a line is the list of a curve, within the limits.
-use Rattle.std.specs.Prelude.{◌≡◌, ℕ, zero, suc, ◌+◌, ◌-◌, ◌%◌, ◌<◌, ◌≤◌, ◌==◌, nat_lt, ℤ, pos, negsuc, Bool, true, false, not, ◌&&◌, ◌||◌, unwrap_or, if◌then◌else◌, List, [], ◌∷◌, length, drop, take, refl}
+use Rattle.std.specs.Prelude.{◌≡◌, ℕ, zero, suc, ◌+◌, ◌-◌, ◌%◌, ◌<◌, ◌≤◌, ◌==◌, nat_lt, ℤ, pos, negsuc, Bool, true, false, not, ◌&&◌, ◌||◌, if◌then◌else◌, List, [], ◌∷◌, length, drop, take, refl}
 use Rattle.std.specs.List.{list_any, zip}
 use Rattle.std.proofs.Common.{arith, get_or, ◌∙◌, sym, ap, subst, lit≤, length-take, length-drop}
-use Rattle.std.proofs.lemmas.List.{get_or-drop, get_or-take, length-map}
+use Rattle.std.proofs.lemmas.List.{get_or-drop, get_or-take}
 use Rattle.std.proofs.lemmas.Slice.Zip.{get_or-zip, length-zip}
 use Rattle.theory.proofs.Bounds.{within_more}
 use Rattle.std.proofs.lemmas.Bool.Decides.{nat_tests}
@@ -13,8 +13,8 @@ use Rattle.theory.specs.CurveList.{IsCurveList, item}
 use Rattle.theory.specs.Ends.{IsFinite, IsBelow, is_finite, is_below, whole}
 use Rattle.theory.specs.Limits.{number_most, base_most, AreWithin, IsWithin, list_most}
 use Rattle.mono_curve.specs.CurveValue.{IsValidCurve}
-use Rattle.model_text.specs.ModelText.{is_over, are_over, is_misplaced, is_minus_inf, is_plus_inf, has_fall, are_misshapen, part_is_beyond, is_beyond, is_misshapen, is_node_line, body, part_list, part_items, part_base, part_listing, line_items, line_listing}
-use Rattle.model_text.specs.NumberWords.{item_of}
+use Rattle.model_text.specs.ModelText.{items_of, is_over, are_over, is_misplaced, is_minus_inf, is_plus_inf, has_fall, are_misshapen, part_is_beyond, is_beyond, is_misshapen, is_node_line, body, part_list, part_items, part_base, part_listing, line_items, line_listing}
+use Rattle.model_text.specs.declared.scale.Scale.{Scale}
 use Rattle.model_text.proofs.ListTests.{neither, none-at}
 
 -- the tests of a list, passed
@@ -118,9 +118,9 @@ sound-filled (e ∷ items) is_node short small count placed single rising = subs
     odd-by : (n : ℕ) (node : Bool) → 0 < n → (n % 2 == 0 && not (node && n == 0)) ≡ false → n % 2 ≡ 1
     odd-by n node some count = grind (arith, nat_tests)
 
-items-count : (part : List (List ℕ)) → length (part_items part) ≡ length (part_list part)
-unfolding part_items
-items-count part = length-map (part_list part) (λ word. unwrap_or (item_of word) MinusInf)
+pub items-count : (here next : ℕ) (words : List (List ℕ)) → length (items_of here next words) ≡ length words
+items-count here next [] = refl
+items-count here next (word ∷ words) = ap suc (items-count next here words)
 
 pub sound-shaped : (items : List Ext) (node : Bool) → length items ≤ list_most → are_over items ≡ false → are_misshapen node items ≡ false → has_fall items ≡ false
     → IsSound (filled items)
@@ -130,29 +130,29 @@ sound-shaped items node short small shape order =
     sound-filled items node (grind (arith, nat_tests)) small two.0 two.1 one.1 order
 
 -- what is within the limits
-pub record AreInLimits (part : List (List ℕ)) : Type 0 where
-  pub short : length (part_items part) ≤ list_most
-  pub items : are_over (part_items part) ≡ false
-  pub base : is_over (part_base part) ≡ false
+pub record AreInLimits (s : Scale) (part : List (List ℕ)) : Type 0 where
+  pub short : length (part_items s part) ≤ list_most
+  pub items : are_over (part_items s part) ≡ false
+  pub base : is_over (part_base s part) ≡ false
 
-pub in-limits : (part : List (List ℕ)) → part_is_beyond part ≡ false → AreInLimits part
-unfolding part_is_beyond
-in-limits part limit =
-    let one = neither (nat_lt list_most (length (part_list part)) || are_over (part_items part)) (is_over (part_base part)) limit in
-    let two = neither (nat_lt list_most (length (part_list part))) (are_over (part_items part)) one.0 in
-    record { short = rw (items-count part) (grind (arith, nat_tests, two.0)); items = two.1; base = one.1 }
+pub in-limits : (s : Scale) (part : List (List ℕ)) → part_is_beyond s part ≡ false → AreInLimits s part
+unfolding part_is_beyond part_items
+in-limits s part limit =
+    let one = neither (nat_lt list_most (length (part_list part)) || are_over (part_items s part)) (is_over (part_base s part)) limit in
+    let two = neither (nat_lt list_most (length (part_list part))) (are_over (part_items s part)) one.0 in
+    record { short = rw (items-count s.flow s.tension (part_list part)) (grind (arith, nat_tests, two.0)); items = two.1; base = one.1 }
 
-pub listing-is : (part : List (List ℕ)) → part_listing part ≡ record { items = filled (part_items part); base = part_base part }
+pub listing-is : (s : Scale) (part : List (List ℕ)) → part_listing s part ≡ record { items = filled (part_items s part); base = part_base s part }
 unfolding part_listing
-listing-is part = refl
+listing-is s part = refl
 
-module _ (words : List (List ℕ)) (limit : is_beyond words ≡ false) (shape : is_misshapen words ≡ false) (order : has_fall (line_items words) ≡ false) where
-  pub sound-line : IsSound (line_listing words).items
+module _ (s : Scale) (words : List (List ℕ)) (limit : is_beyond s words ≡ false) (shape : is_misshapen s words ≡ false) (order : has_fall (line_items s words) ≡ false) where
+  pub sound-line : IsSound (line_listing s words).items
   unfolding is_beyond is_misshapen line_items line_listing part_listing
   sound-line =
-      let within = in-limits (body words) limit in
-      sound-shaped (part_items (body words)) (is_node_line words) within.short within.items shape order
+      let within = in-limits s (body words) limit in
+      sound-shaped (part_items s (body words)) (is_node_line words) within.short within.items shape order
 
-  pub sound-base : IsWithin number_most (line_listing words).base
+  pub sound-base : IsWithin number_most (line_listing s words).base
   unfolding is_beyond line_listing part_listing
-  sound-base = within (part_base (body words)) (in-limits (body words) limit).base
+  sound-base = within (part_base s (body words)) (in-limits s (body words) limit).base

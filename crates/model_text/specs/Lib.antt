@@ -1,4 +1,5 @@
 pub mod Names
+pub mod Scale
 pub mod Model
 pub mod ModelTables
 pub mod Printed
@@ -8,4 +9,5 @@ pub mod NearNumbers
 pub mod ModelText
 pub mod LineParts
 pub mod Reading
+pub mod Rescaled
 pub mod ModelTextLaws

@@ -1,6 +1,5 @@
 -- The parts of a line as the reader keeps them.
-use Rattle.std.specs.Prelude.{◌≡◌, ℕ, Bool, true, false, not, if◌then◌else◌, is_none, Option, None, Some, Result, Ok, Err, List, [], ◌∷◌, map, codes}
-use Rattle.std.specs.List.{list_any}
+use Rattle.std.specs.Prelude.{◌≡◌, ℕ, Bool, true, false, not, if◌then◌else◌, Option, None, Some, Result, Ok, Err, List, [], ◌∷◌, map, codes}
 use Rattle.std.specs.Str.{bytes_eq}
 use Rattle.std.specs.Borrow.{Bor}
 use Rattle.model_text.specs.declared.line.Kind.{Kind}
@@ -12,8 +11,8 @@ use Rattle.model_text.specs.declared.fault.FaultWord.TheVariants.{Name, Number, 
 use Rattle.model_text.specs.declared.fault.PartFault.{PartFault}
 use Rattle.model_text.specs.declared.fault.PartFault.TheVariants.{Word, NoMemory}
 use Rattle.model_text.specs.Model.{node_names, place_of}
-use Rattle.model_text.specs.NumberWords.{item_of}
-use Rattle.model_text.specs.ModelText.{is_node_line, is_arc_line, line_names, body, word_at, first_fault, lacks_names, part_lacks_numbers, lacks_numbers, part_is_beyond, is_beyond, is_full, are_misshapen, is_misshapen, line_items, has_fall, is_twice, is_unknown, is_loop}
+use Rattle.model_text.specs.declared.scale.Scale.{Scale}
+use Rattle.model_text.specs.ModelText.{is_node_line, is_arc_line, line_names, body, word_at, first_fault, lack_items, lacks_names, part_lacks_numbers, lacks_numbers, part_is_beyond, is_beyond, is_full, are_misshapen, is_misshapen, line_items, has_fall, is_twice, is_unknown, is_loop}
 
 abbrev pub texts : List (Bor (List ℕ)) → List (List ℕ)
 texts words = map (λ word. word.now) words
@@ -39,20 +38,20 @@ keyword_kind word = if bytes_eq word (codes "node") then Some Node else (if byte
 -- ---- how far the reader is with a line
 
 -- the test of the words of a list; those of a part's words, and of its items
-abbrev pub item_tests : List (List ℕ) → List (Bool × FaultWord)
-item_tests words = (list_any (λ word. is_none (item_of word)) words, Number) ∷ []
+abbrev pub item_tests : Scale → List (List ℕ) → List (Bool × FaultWord)
+item_tests s words = (lack_items s.flow s.tension words, Number) ∷ []
 
-abbrev pub number_tests : List (List ℕ) → List (Bool × FaultWord)
-number_tests part = (part_lacks_numbers part, Number) ∷ (part_is_beyond part, Limit) ∷ []
+abbrev pub number_tests : Scale → List (List ℕ) → List (Bool × FaultWord)
+number_tests s part = (part_lacks_numbers s part, Number) ∷ (part_is_beyond s part, Limit) ∷ []
 
 abbrev pub shape_tests : Bool → List Ext → List (Bool × FaultWord)
 shape_tests node items = (are_misshapen node items, Shape) ∷ (has_fall items, Order) ∷ []
 
 -- those of a line up to its curve, and those of its names
-abbrev pub curve_tests : Entries → List (List ℕ) → List (Bool × FaultWord)
-curve_tests m words =
-    (lacks_names words, Name) ∷ (lacks_numbers words, Number) ∷ (is_beyond words, Limit) ∷ (is_full m words, Limit)
-    ∷ (is_misshapen words, Shape) ∷ (has_fall (line_items words), Order) ∷ []
+abbrev pub curve_tests : Scale → Entries → List (List ℕ) → List (Bool × FaultWord)
+curve_tests s m words =
+    (lacks_names words, Name) ∷ (lacks_numbers s words, Number) ∷ (is_beyond s words, Limit) ∷ (is_full m words, Limit)
+    ∷ (is_misshapen s words, Shape) ∷ (has_fall (line_items s words), Order) ∷ []
 
 abbrev pub name_tests : Entries → List (List ℕ) → List (Bool × FaultWord)
 name_tests m words = (is_twice m words, Twice) ∷ (is_unknown m words, Unknown) ∷ (is_loop words, Loop) ∷ []

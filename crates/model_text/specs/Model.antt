@@ -4,6 +4,8 @@ use Rattle.theory.specs.CurveList.{Listing}
 use Rattle.theory.specs.Grounded.{Entries, NodeEntry, ArcEntry, IsModel}
 use Rattle.theory.specs.Limits.{AreWithin, number_most, IsWithin, nodes_most, arcs_most, list_most}
 use Rattle.model_text.specs.Names.{IsName}
+use Rattle.model_text.specs.Scale.{IsScale}
+use Rattle.model_text.specs.declared.scale.Scale.{Scale}
 use Rattle.model_text.specs.declared.model.AddFault.{AddFault}
 use Rattle.model_text.specs.declared.model.AddFault.TheVariants.{Twice, Loop, Full}
 
@@ -71,7 +73,9 @@ pub record IsWellFormed (m : Entries) : Type 0 where
   pub supplies : All (λ node. IsWithinLimits node.supply) m.nodes
   pub curves : All (λ arc. IsWithinLimits arc.curve) m.arcs
 
--- what a clause sees of a `Model`: its entries, and that they are well-formed
+-- what a clause sees of a `Model`: its scale and its entries, and that they are well-formed
 pub record Formed : Type 0 where
+  pub scale : Scale
+  pub scaled : IsScale scale
   pub entries : Entries
   pub formed : IsWellFormed entries

@@ -18,12 +18,13 @@ pub(crate) fn add(
     curve: Curve,
     ends: (u32, u32),
 ) -> Result<(), AllocError>
-    requires passed { first_fault (entry_tests model.old.entries (texts line.now.words.now)) ≡ None }
-    requires curve { curve.listing ≡ line_listing (texts line.now.words.now) }
+    requires passed { first_fault (entry_tests model.old.scale model.old.entries (texts line.now.words.now)) ≡ None }
+    requires curve { curve.listing ≡ line_listing model.old.scale (texts line.now.words.now) }
     requires short { length curve.listing.items ≤ list_most }
     requires base { IsWithin number_most curve.listing.base }
     requires ends { AreEnds model.old.entries (texts line.now.words.now) ends.0 ends.1 }
-    ensures { OnOk result (model.new.entries ≡ with_line model.old.entries (texts line.now.words.now)) }
+    ensures added { OnOk result (model.new.entries ≡ with_line model.old.scale model.old.entries (texts line.now.words.now)) }
+    ensures scale { model.new.scale ≡ model.old.scale }
 {
     let name = name_of(alloc, line)?;
     match line.kind {

@@ -15,8 +15,9 @@ use std::alloc::Global;
 
 /// Adds what the line is to the model, where it passes the tests.
 pub(crate) fn read_entry(alloc: Global, model: &mut Model, words: &[&[u8]]) -> Result<(), PartFault>
-    ensures tests { Passes (entry_tests model.old.entries (texts words.now)) result }
-    ensures added { OnOk result (model.new.entries ≡ with_line model.old.entries (texts words.now)) }
+    ensures tests { Passes (entry_tests model.old.scale model.old.entries (texts words.now)) result }
+    ensures added { OnOk result (model.new.entries ≡ with_line model.old.scale model.old.entries (texts words.now)) }
+    ensures scale { model.new.scale ≡ model.old.scale }
 {
     let Some(line) = Line::of(words) else {
         return Err(PartFault::Word(FaultWord::Keyword));
@@ -32,15 +33,15 @@ pub(crate) fn read_entry(alloc: Global, model: &mut Model, words: &[&[u8]]) -> R
 
 /// The curve of the line, where it passes the tests up to those of its names.
 fn curve_of(alloc: Global, model: &Model, line: &Line<'_>) -> Result<Curve, PartFault>
-    ensures tests { Passes (curve_tests model.now.entries (texts line.now.words.now)) result }
-    ensures curve { IfOk result (λ curve. curve.listing ≡ line_listing (texts line.now.words.now)) }
+    ensures tests { Passes (curve_tests model.now.scale model.now.entries (texts line.now.words.now)) result }
+    ensures curve { IfOk result (λ curve. curve.listing ≡ line_listing model.now.scale (texts line.now.words.now)) }
     ensures short { IfOk result (λ curve. length curve.listing.items ≤ list_most) }
     ensures base { IfOk result (λ curve. IsWithin number_most curve.listing.base) }
 {
     if line.lacks_names() {
         return Err(PartFault::Word(FaultWord::Name));
     }
-    let numbers = numbers_of(alloc, line.part)?;
+    let numbers = numbers_of(alloc, line.part, model.scale())?;
     if is_full(model, line) {
         return Err(PartFault::Word(FaultWord::Limit));
     }

@@ -17,6 +17,10 @@ mod print;
 mod read;
 #[cfg(test)]
 mod read_tests;
+mod rescaling;
+#[cfg(test)]
+mod rescaling_tests;
+mod scale;
 #[cfg(test)]
 mod tests;
 pub mod text_laws;
@@ -28,6 +32,10 @@ pub use model::{ARCS_MOST, AddFault, LIST_MOST, Model, NODES_MOST};
 pub use name::{NAME_MOST, Name, NameFault, is_name};
 pub use numbers::number;
 pub use part::{curve_of_words, read_curve};
-pub use print::{append_end, append_line, append_list, append_number, append_word, print_model};
+pub use print::{
+    append_end, append_fixed, append_line, append_list, append_number, append_word, print_model,
+};
 pub use read::{ModelError, read_model};
+pub use rescaling::{ScaleFault, rescale};
+pub use scale::{DECIMALS_MOST, Scale};
 pub use words::words_of;

@@ -1,9 +1,11 @@
 // The model: nodes with supplies, arcs with curves, and the tables that find them by name.
 ghost use Rattle.std.specs.Prelude.{◌≡◌, ◌≤◌, ◌<◌, None, length, IfOk, IfSome, OnOk, OnErr, IsOkUnless, MatchOption};
 ghost use Rattle.model_text.specs.Model.{IsWellFormed};
+ghost use Rattle.model_text.specs.Scale.{IsScale};
 ghost use Rattle.model_text.specs.ModelTables.{table_entries};
 
 use crate::name::Name;
+use crate::scale::Scale;
 use indexmap::IndexMap;
 use mono_curve::Curve;
 use std::alloc::{AllocError, Global};
@@ -40,11 +42,13 @@ struct Joining {
 }
 
 /// A network with names: nodes with the curves of their supplies, and arcs with their curves. Both are numbered in
-/// the order in which they were added.
+/// the order in which they were added. All numbers of the curves are whole: the scale says how they are written.
 #[derive(Drop)]
 pub struct Model {
+    scale: Scale,
     nodes: IndexMap<Vec<u8>, Curve>,
     arcs: IndexMap<Vec<u8>, Joining>,
+    ghost scaled: { IsScale scale },
     ghost formed: { IsWellFormed (table_entries nodes.entries arcs.entries) },
 }
 
@@ -54,21 +58,39 @@ impl std::marker::Model for Model {
 
     ghost Value = { Formed };
 
-    ghost view = { λ m. record { entries = table_entries m.nodes.entries m.arcs.entries; formed = m.formed } };
+    ghost view = { λ m. record { scale = m.scale; scaled = m.scaled; entries = table_entries m.nodes.entries m.arcs.entries; formed = m.formed } };
 }
 
 impl Model {
     ghost use Rattle.theory.specs.Limits.{list_most, number_most, IsWithin};
+    ghost use Rattle.model_text.specs.Scale.{IsScale, plain};
     ghost use Rattle.model_text.specs.Model.{no_entries, with_node, with_arc, node_fault, arc_fault, node_names, arc_names, node_at, arc_at, place_of};
 
-    /// A model with no node and no arc.
+    /// A model with no node and no arc, of whole numbers.
     pub fn new(alloc: Global) -> Model
-        ensures { result.entries ≡ no_entries }
+        ensures entries { result.entries ≡ no_entries }
+        ensures scale { result.scale ≡ plain }
+    {
+        Model::with_scale(alloc, Scale::PLAIN)
+    }
+
+    /// A model with no node and no arc, and the scale.
+    pub fn with_scale(alloc: Global, scale: Scale) -> Model
+        requires { IsScale scale }
+        ensures entries { result.entries ≡ no_entries }
+        ensures scale { result.scale ≡ scale }
     {
         Model {
+            scale,
             nodes: IndexMap::new(alloc),
             arcs: IndexMap::new(alloc),
         }
+    }
+
+    pub fn scale(&self) -> Scale
+        ensures { result ≡ self.now.scale }
+    {
+        self.scale
     }
 
     /// Adds a node with the curve of its supply, and gives its position.
@@ -81,6 +103,7 @@ impl Model {
         ensures refused { MatchOption (node_fault self.old.entries name.bytes)
             (IsOkUnless result AddFault.NoMemory) (λ fault. result ≡ Err fault) }
         ensures err { OnErr result (self.new.entries ≡ self.old.entries) }
+        ensures scale { self.new.scale ≡ self.old.scale }
     {
         if self.node_of(name.as_slice()).is_some() {
             return Err(AddFault::Twice);
@@ -103,6 +126,7 @@ impl Model {
         ensures added { OnOk result (self.new.entries
             ≡ with_node self.old.entries name.bytes supply.listing) }
         ensures err { OnErr result (self.new.entries ≡ self.old.entries) }
+        ensures scale { self.new.scale ≡ self.old.scale }
     {
         let position = self.nodes.len();
         match self.nodes.insert(name.into_vec(), supply) {
@@ -123,6 +147,7 @@ impl Model {
         ensures refused { MatchOption (arc_fault self.old.entries name.bytes from to)
             (IsOkUnless result AddFault.NoMemory) (λ fault. result ≡ Err fault) }
         ensures err { OnErr result (self.new.entries ≡ self.old.entries) }
+        ensures scale { self.new.scale ≡ self.old.scale }
     {
         if self.arc_of(name.as_slice()).is_some() {
             return Err(AddFault::Twice);
@@ -156,6 +181,7 @@ impl Model {
         ensures added { OnOk result (self.new.entries
             ≡ with_arc self.old.entries name.bytes from to curve.listing) }
         ensures err { OnErr result (self.new.entries ≡ self.old.entries) }
+        ensures scale { self.new.scale ≡ self.old.scale }
     {
         let position = self.arcs.len();
         let joining = Joining { from, to, curve };

@@ -3,7 +3,7 @@ ghost use Rattle.std.specs.Prelude.{◌≡◌, ◌↔◌, Bool, false, IfOk};
 ghost use Rattle.std.specs.List.{list_all};
 ghost use Rattle.model_text.specs.Names.{IsName, is_name, is_name_byte};
 
-use std::alloc::Global;
+use std::alloc::{AllocError, Global};
 use std::marker::Model;
 
 /// The greatest number of bytes of a name.
@@ -40,10 +40,16 @@ impl Name {
         if !is_name(bytes) {
             return Err(NameFault::Form);
         }
-        match Vec::from_slice(alloc, bytes) {
-            Ok(bytes) => Ok(Name { bytes }),
-            Err(_) => Err(NameFault::NoMemory),
-        }
+        Name::of_tested(alloc, bytes).map_err(|_| NameFault::NoMemory)
+    }
+
+    /// The name of bytes that were tested before.
+    pub(crate) fn of_tested(alloc: Global, bytes: &[u8]) -> Result<Name, AllocError>
+        requires { IsName bytes.now }
+        ensures name { IfOk result (λ name. name.bytes ≡ bytes.now) }
+    {
+        let bytes = Vec::from_slice(alloc, bytes)?;
+        Ok(Name { bytes })
     }
 
     pub fn as_slice(&self) -> &[u8]

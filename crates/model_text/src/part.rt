@@ -3,8 +3,9 @@ ghost use Rattle.std.specs.Prelude.{◌≡◌, ◌≤◌, ◌==◌, ◌%◌, ◌
 ghost use Rattle.std.specs.List.{position_or_len};
 ghost use Rattle.theory.specs.Limits.{list_most, number_most, IsWithin};
 ghost use Rattle.model_text.specs.Lines.{line_words};
-ghost use Rattle.model_text.specs.ModelText.{is_base_word, word_at, is_no_base, is_over, are_over, are_misshapen, listing_of, part_items, part_base, part_listing, part_tests};
-ghost use Rattle.model_text.specs.NumberWords.{item_of, number_of};
+ghost use Rattle.model_text.specs.ModelText.{is_base_word, word_at, is_no_base, is_over, are_over, are_misshapen, listing_of, items_of, part_items, part_base, part_listing, part_tests};
+ghost use Rattle.model_text.specs.NumberWords.{fixed_of};
+ghost use Rattle.model_text.specs.Scale.{IsScale};
 ghost use Rattle.model_text.specs.NearNumbers.{near_item, near_number};
 ghost use Rattle.model_text.specs.LineParts.{texts, item_tests, number_tests, shape_tests, Passes};
 
@@ -13,32 +14,40 @@ use crate::fault::{FaultWord, PartFault};
 use crate::items;
 use crate::model::LIST_MOST;
 use crate::numbers::{item, number};
+use crate::scale::Scale;
 use crate::words::words_of;
 use mono_curve::Curve;
 use std::alloc::{AllocError, Global};
 use theory::Ext;
 
 /// The curve that is listed behind the names of a line of a node, or of an arc.
-pub fn read_curve(alloc: Global, part: &[u8], node: bool) -> Result<Curve, PartFault>
-    ensures tests { Passes (part_tests node (line_words part.now)) result }
-    ensures curve { IfOk result (λ curve. curve.listing ≡ part_listing (line_words part.now)) }
+pub fn read_curve(alloc: Global, part: &[u8], scale: Scale, node: bool) -> Result<Curve, PartFault>
+    requires { IsScale scale }
+    ensures tests { Passes (part_tests scale node (line_words part.now)) result }
+    ensures curve { IfOk result (λ curve. curve.listing ≡ part_listing scale (line_words part.now)) }
     ensures short { IfOk result (λ curve. length curve.listing.items ≤ list_most) }
     ensures base { IfOk result (λ curve. IsWithin number_most curve.listing.base) }
 {
     let Ok(words) = words_of(alloc, part) else {
         return Err(PartFault::NoMemory);
     };
-    curve_of_words(alloc, &words, node)
+    curve_of_words(alloc, &words, scale, node)
 }
 
 /// The same by the words of the part.
-pub fn curve_of_words(alloc: Global, part: &[&[u8]], node: bool) -> Result<Curve, PartFault>
-    ensures tests { Passes (part_tests node (texts part.now)) result }
-    ensures curve { IfOk result (λ curve. curve.listing ≡ part_listing (texts part.now)) }
+pub fn curve_of_words(
+    alloc: Global,
+    part: &[&[u8]],
+    scale: Scale,
+    node: bool,
+) -> Result<Curve, PartFault>
+    requires { IsScale scale }
+    ensures tests { Passes (part_tests scale node (texts part.now)) result }
+    ensures curve { IfOk result (λ curve. curve.listing ≡ part_listing scale (texts part.now)) }
     ensures short { IfOk result (λ curve. length curve.listing.items ≤ list_most) }
     ensures base { IfOk result (λ curve. IsWithin number_most curve.listing.base) }
 {
-    numbers_of(alloc, part)?.into_curve(node)
+    numbers_of(alloc, part, scale)?.into_curve(node)
 }
 
 /// The items and the base of a part, all within the limits.
@@ -52,14 +61,15 @@ pub(crate) struct Numbers {
 }
 
 /// The numbers of the part, where it passes the tests that tell no node from an arc.
-pub(crate) fn numbers_of(alloc: Global, part: &[&[u8]]) -> Result<Numbers, PartFault>
-    ensures tests { Passes (number_tests (texts part.now)) result }
-    ensures items { IfOk result (λ numbers. numbers.items.items ≡ part_items (texts part.now)) }
-    ensures base { IfOk result (λ numbers. numbers.base ≡ part_base (texts part.now)) }
+pub(crate) fn numbers_of(alloc: Global, part: &[&[u8]], scale: Scale) -> Result<Numbers, PartFault>
+    requires { IsScale scale }
+    ensures tests { Passes (number_tests scale (texts part.now)) result }
+    ensures items { IfOk result (λ numbers. numbers.items.items ≡ part_items scale (texts part.now)) }
+    ensures base { IfOk result (λ numbers. numbers.base ≡ part_base scale (texts part.now)) }
 {
     let (list, based) = part.split_at(before_base(part));
-    let items = items_of(alloc, list)?;
-    let Some(base) = base_of(based) else {
+    let items = items_of(alloc, list, scale)?;
+    let Some(base) = base_of(based, scale.cost()) else {
         return Err(PartFault::Word(FaultWord::Number));
     };
     if list.len() > LIST_MOST {
@@ -121,31 +131,35 @@ fn filled(mut items: Vec<Ext>) -> Result<Vec<Ext>, AllocError>
     Ok(items)
 }
 
-/// The items that the words are, each parsed once, in a vector with room for one at least.
-fn items_of(alloc: Global, words: &[&[u8]]) -> Result<Vec<Ext>, PartFault>
-    ensures tests { Passes (item_tests (texts words.now)) result }
-    ensures items { IfOk result (λ items. items.items ≡ map (λ word. near_item (unwrap_or (item_of word.now) Ext.MinusInf)) words.now) }
+/// The items that the words are, points and slopes in turn, each parsed once, in a vector with room for one at least.
+fn items_of(alloc: Global, words: &[&[u8]], scale: Scale) -> Result<Vec<Ext>, PartFault>
+    requires { IsScale scale }
+    ensures tests { Passes (item_tests scale (texts words.now)) result }
+    ensures items { IfOk result (λ items. items.items ≡ map near_item (items_of scale.flow scale.tension (texts words.now))) }
 {
     let Ok(mut items) = Vec::with_capacity(alloc, words.len().max(1)) else {
         return Err(PartFault::NoMemory);
     };
+    let (mut here, mut next) = (scale.flow, scale.tension);
     for word in words {
-        let Some(item) = item(word) else {
+        let Some(item) = item(word, here) else {
             return Err(PartFault::Word(FaultWord::Number));
         };
         items.push_reserved(item);
+        (here, next) = (next, here);
     }
     Ok(items)
 }
 
 /// The base, or 0 where none is written, or nothing where `base` isn't followed by one number alone.
-fn base_of(words: &[&[u8]]) -> Option<i64>
-    ensures none { is_none result ≡ is_no_base (texts words.now) }
-    ensures base { IfSome result (λ base. base ≡ near_number (unwrap_or (number_of (word_at (texts words.now) 1)) (pos 0))) }
+fn base_of(words: &[&[u8]], decimals: u8) -> Option<i64>
+    requires { decimals ≤ 12 }
+    ensures none { is_none result ≡ is_no_base decimals (texts words.now) }
+    ensures base { IfSome result (λ base. base ≡ near_number (unwrap_or (fixed_of decimals (word_at (texts words.now) 1)) (pos 0))) }
 {
     match words {
         [] => Some(0),
-        [_, word] => number(word),
+        [_, word] => number(word, decimals),
         _ => None,
     }
 }

@@ -1,15 +1,15 @@
 // Parts of lines and the curves that they list, by the format's own description.
 use crate::FaultWord::{Limit, Number, Order, Shape};
-use crate::{FaultWord, LIST_MOST, PartFault, append_list, append_number, read_curve};
+use crate::{FaultWord, LIST_MOST, PartFault, Scale, append_list, append_number, read_curve};
 use mono_curve::Listed;
 use std::test::Fail;
 
 // The items and then the base, each after a space, or the word.
 fn answer(rt: &HostRuntime, part: &[u8], node: bool) -> Result<Result<Vec<u8>, FaultWord>, Fail> {
-    match read_curve(rt.alloc(), part, node) {
+    match read_curve(rt.alloc(), part, Scale::PLAIN, node) {
         Ok(curve) => {
             let mut text = Vec::new(rt.alloc());
-            append_list(&mut text, &curve)?;
+            append_list(&mut text, &curve, 0, 0)?;
             append_number(&mut text, curve.base())?;
             Ok(Ok(text))
         }

@@ -109,6 +109,71 @@ fn texts(rt: HostRuntime) -> Result<(), Fail> {
             b"network 1\nnode s -0000000000000000000000000000000001000000000",
             Ok(b"network 1\nnode s -1000000000\n"),
         ),
+        // decimals
+        (b"network 2", Err((2, Header))),
+        (b"network 2\n# a\n\n", Err((4, Header))),
+        (b"network 3\n", Err((1, Header))),
+        (b"network 2\nnode s 1\n", Err((2, Header))),
+        (b"network 2\ndecimals 1 7\n", Err((2, Header))),
+        (b"network 2\ndecimals 1 02\n", Err((2, Header))),
+        (b"network 2\ndecimals 1\n", Err((2, Header))),
+        (b"network 2\ndecimals 1 2 0\n", Err((2, Header))),
+        (
+            b"network 2\ndecimals 1 2\ndecimals 1 2\n",
+            Err((3, Keyword)),
+        ),
+        (b"network 1\nnode s 1.0\n", Err((2, Number))),
+        (b"network 2\ndecimals 0 0\nnode s 1.0\n", Err((3, Number))),
+        (b"network 2\ndecimals 1 2\nnode s 1.\n", Err((3, Number))),
+        (b"network 2\ndecimals 1 2\nnode s .5\n", Err((3, Number))),
+        (b"network 2\ndecimals 1 2\nnode s 1.00\n", Err((3, Number))),
+        (b"network 2\ndecimals 1 2\nnode s 1.2.3\n", Err((3, Number))),
+        (
+            b"network 2\ndecimals 1 2\nnode s 0 2.255 1\n",
+            Err((3, Number)),
+        ),
+        (
+            b"network 2\ndecimals 1 2\nnode s 0 2.25 1.5 3 base 1.2345\n",
+            Err((3, Number)),
+        ),
+        (
+            b"network 2\ndecimals 1 2\nnode s 100000000.1\n",
+            Err((3, Limit)),
+        ),
+        (
+            b"network 2\ndecimals 1 2\nnode s 0 base 1000000.001\n",
+            Err((3, Limit)),
+        ),
+        (
+            b"network 2\n#\ndecimals 1 2 # a\nnode s -0 -2.25 +01.5 3 base -1.234\n",
+            Err((4, Shape)),
+        ),
+        (
+            b"network 2\n#\ndecimals 1 2 # a\nnode s -0 -2.25 +01.5 3 inf base -1.234\nnode t\nnode u -0.5 base 0.001\n",
+            Ok(
+                b"network 2\ndecimals 1 2\nnode s 0.0 -2.25 1.5 3.00 +inf base -1.234\nnode t 0.0\nnode u -0.5 base 0.001\n",
+            ),
+        ),
+        (
+            b"network 2\ndecimals 1 2\nnode s -inf 2.5 +inf\nnode t -5\narc a s t 0 2.25 4 5 10\n",
+            Ok(
+                b"network 2\ndecimals 1 2\nnode s -inf 2.50 +inf\nnode t -5.0\narc a s t 0.0 2.25 4.0 5.00 10.0\n",
+            ),
+        ),
+        (
+            b"network 2\ndecimals 0 0\nnode s -07\n",
+            Ok(b"network 2\ndecimals 0 0\nnode s -7\n"),
+        ),
+        (
+            b"network 2\ndecimals 6 6\nnode s 1000 0.000001 1000.000000\n",
+            Err((3, Order)),
+        ),
+        (
+            b"network 2\ndecimals 6 6\nnode s 999.5 1000 1000 base -0.000000000001\n",
+            Ok(
+                b"network 2\ndecimals 6 6\nnode s 999.500000 1000.000000 1000.000000 base -0.000000000001\n",
+            ),
+        ),
         // whole models
         (
             b"network 1\nnode s\nnode t\narc a s t -1000000000 -1000000000 0 1000000000 1000000000",

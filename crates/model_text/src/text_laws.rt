@@ -1,5 +1,5 @@
 // Laws of the model text.
-ghost use Rattle.model_text.specs.ModelTextLaws.{OneModelLaw, SpelledOrBadLaw, OneFaultLaw, DecidedLaw, SpelledIsFormedLaw, PrintedLaw, ReadBackLaw};
+ghost use Rattle.model_text.specs.ModelTextLaws.{OneModelLaw, SpelledOrBadLaw, OneFaultLaw, DecidedLaw, SpelledIsFormedLaw, PrintedLaw, ReadBackLaw, RescaledBackLaw};
 
 /// A text spells at most one model.
 pub fn one_model()
@@ -34,4 +34,9 @@ pub fn printed()
 /// What the printed form of a model spells is that model.
 pub fn read_back()
     ensures { ReadBackLaw }
+{}
+
+/// A model that is exact at another scale is the same again back at its own.
+pub fn rescaled_back()
+    ensures { RescaledBackLaw }
 {}

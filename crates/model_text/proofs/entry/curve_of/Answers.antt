@@ -11,15 +11,15 @@ returns-in_err-numbers-clause-tests c =
     let line = c.args.line.now in
     let named = sym c.lacks_names.ensures ∙ c.if-lacks_names.false in
     let same : c.from_residual.result ≡ Err c.in_err-numbers.field-0.0 = search rules in
-    let refused = subst (Passes (number_tests (texts line.part.now))) c.in_err-numbers.was c.numbers_of.ensures.tests in
-    rw same (numbers-refused c.args.model.now.entries (texts line.words.now) (texts line.part.now) line.parts.part named c.in_err-numbers.field-0.0 refused)
+    let refused = subst (Passes (number_tests c.args.model.now.scale (texts line.part.now))) c.in_err-numbers.was (rw c.scale.ensures at c.numbers_of.ensures.tests) in
+    rw same (numbers-refused c.args.model.now.scale c.args.model.now.entries (texts line.words.now) (texts line.part.now) line.parts.part named c.in_err-numbers.field-0.0 refused)
 
 pub returns-then-is_full-clause-tests : goal.returns-then-is_full-clause-tests
 returns-then-is_full-clause-tests c =
     let line = c.args.line.now in
     let named = sym c.lacks_names.ensures ∙ c.if-lacks_names.false in
-    let passed = subst (Passes (number_tests (texts line.part.now))) c.in_ok-numbers.was c.numbers_of.ensures.tests in
-    room-lacking c.args.model.now.entries (texts line.words.now) (texts line.part.now) line.parts.part named passed (sym c.is_full.ensures ∙ c.if-is_full.true)
+    let passed = subst (Passes (number_tests c.args.model.now.scale (texts line.part.now))) c.in_ok-numbers.was (rw c.scale.ensures at c.numbers_of.ensures.tests) in
+    room-lacking c.args.model.now.scale c.args.model.now.entries (texts line.words.now) (texts line.part.now) line.parts.part named passed (sym c.is_full.ensures ∙ c.if-is_full.true)
 
 pub returns-clause-tests : goal.returns-clause-tests
 returns-clause-tests c =
@@ -28,11 +28,11 @@ returns-clause-tests c =
     let words = texts line.words.now in
     let part = texts line.part.now in
     let named = sym c.lacks_names.ensures ∙ c.if-lacks_names.false in
-    let passed = subst (Passes (number_tests part)) c.in_ok-numbers.was c.numbers_of.ensures.tests in
-    let left = shape-left m words part line.parts.part named passed (sym c.is_full.ensures ∙ c.if-is_full.false) in
-    let same : first_fault (curve_tests m words) ≡ first_fault (shape_tests c.is_node.result c.in_ok-numbers.numbers.items.items) =
-    left ∙ rw (c.in_ok-numbers.ensures.items, c.is_node.ensures, line.parts.node) refl in
-    passes-same (curve_tests m words) (shape_tests c.is_node.result c.in_ok-numbers.numbers.items.items) same c.into_curve.result c.into_curve.ensures.tests
+    let passed = subst (Passes (number_tests c.args.model.now.scale part)) c.in_ok-numbers.was (rw c.scale.ensures at c.numbers_of.ensures.tests) in
+    let left = shape-left c.args.model.now.scale m words part line.parts.part named passed (sym c.is_full.ensures ∙ c.if-is_full.false) in
+    let same : first_fault (curve_tests c.args.model.now.scale m words) ≡ first_fault (shape_tests c.is_node.result c.in_ok-numbers.numbers.items.items) =
+    left ∙ rw (c.in_ok-numbers.ensures.items, c.scale.ensures, c.is_node.ensures, line.parts.node) refl in
+    passes-same (curve_tests c.args.model.now.scale m words) (shape_tests c.is_node.result c.in_ok-numbers.numbers.items.items) same c.into_curve.result c.into_curve.ensures.tests
 
 pub returns-clause-curve : goal.returns-clause-curve
 unfolding part_listing
@@ -41,6 +41,6 @@ returns-clause-curve c =
     let words = texts line.words.now in
     let part = texts line.part.now in
     let named = sym c.lacks_names.ensures ∙ c.if-lacks_names.false in
-    let is : listing_of c.in_ok-numbers.numbers.items.items c.in_ok-numbers.numbers.base ≡ line_listing words =
-    rw (c.in_ok-numbers.ensures.items, c.in_ok-numbers.ensures.base) (listing-is c.args.model.now.entries words part line.parts.part named) in
+    let is : listing_of c.in_ok-numbers.numbers.items.items c.in_ok-numbers.numbers.base ≡ line_listing c.args.model.now.scale words =
+    rw (c.in_ok-numbers.ensures.items, c.in_ok-numbers.ensures.base, c.scale.ensures) (listing-is c.args.model.now.scale c.args.model.now.entries words part line.parts.part named) in
     rw is at c.into_curve.ensures.curve

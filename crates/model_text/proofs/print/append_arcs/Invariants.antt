@@ -5,4 +5,4 @@ use Rattle.model_text.proofs.print.append_arcs.Given as goal
 
 abbrev pub invariant-loop-j : goal.invariant-loop-j
 invariant-loop-j l =
-    (l.out.items ≡ l.initial.out.items ++ flat_map (printed_arc l.m.entries) (take l.j l.m.entries.arcs))
+    (l.out.items ≡ l.initial.out.items ++ flat_map (printed_arc l.m.scale l.m.entries) (take l.j l.m.entries.arcs))

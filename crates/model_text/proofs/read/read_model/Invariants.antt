@@ -1,8 +1,8 @@
--- The lines so far, counted, have made the model and hold no fault; the rest of the text has the other lines.
+-- The lines so far, counted, have made what the reader has, and hold no fault; the rest of the text has the other lines.
 use Rattle.std.proofs.Common.{◌≡◌, ◌≤◌, ◌+◌, take, drop, length}
-use Rattle.std.specs.List.{list_any}
 use Rattle.model_text.specs.Lines.{text_lines}
-use Rattle.model_text.specs.ModelText.{entries_of, has_words, NoFaultBefore}
+use Rattle.model_text.specs.ModelText.{progress_of, NoFaultBefore}
+use Rattle.model_text.specs.Reading.{progress_at}
 use Rattle.model_text.proofs.read.read_model.Given as goal
 
 abbrev pub decreases-loop-rest : goal.decreases-loop-rest
@@ -13,7 +13,6 @@ invariant-loop-rest l = record {
   bytes : l.count + length l.rest ≤ length l.fn.text;
   within : l.count ≤ length (text_lines l.fn.text);
   lines_left : drop l.count (text_lines l.fn.text) ≡ text_lines l.rest;
-  model : l.reader.model.entries ≡ entries_of (take l.count (text_lines l.fn.text));
-  begun : l.reader.begun ≡ list_any has_words (take l.count (text_lines l.fn.text));
+  progress : progress_at l.reader.stage l.reader.model.scale l.reader.model.entries ≡ progress_of (take l.count (text_lines l.fn.text));
   no_fault : NoFaultBefore (text_lines l.fn.text) l.count;
 }

@@ -20,9 +20,12 @@ invariant_of-self-inside c =
     let room : length arcs < arcs_most = omega (arith, fits.2, length-map arcs arc_entry, ap (λ m. length m.entries.arcs) c.self.view_is) in
     let small : IsWithinLimits c.args.curve.listing = record { short = c.requires.short; items = c.args.curve.valid.items_within; base = c.requires.base } in
     let nodes_is = ap (λ m. length m.entries.nodes) c.self.view_is in (
-      either_way (λ rows. IsWellFormed (table_entries nodes rows)) c.insert.result arcs _ _ c.insert.ensures.entries c.insert.ensures.err c.self.inside.formed
-          (arc_keeps nodes arcs key (record { from = c.args.from; to = c.args.to; curve = c.args.curve }) c.self.inside.formed (subst IsName (sym c.into_vec.ensures) c.args.name.named) none room (omega (arith, nodes_is)) (omega (arith, nodes_is)) fits.1 small),
-      tt,
+      c.self.inside.scaled,
+      (
+        either_way (λ rows. IsWellFormed (table_entries nodes rows)) c.insert.result arcs _ _ c.insert.ensures.entries c.insert.ensures.err c.self.inside.formed
+            (arc_keeps nodes arcs key (record { from = c.args.from; to = c.args.to; curve = c.args.curve }) c.self.inside.formed (subst IsName (sym c.into_vec.ensures) c.args.name.named) none room (omega (arith, nodes_is)) (omega (arith, nodes_is)) fits.1 small),
+        tt,
+      ),
     )
 
 pub returns-in-Ok-clause-added : goal.returns-in-Ok-clause-added

@@ -19,9 +19,12 @@ invariant_of-self-inside c =
     let none = free _ _ key.items _ fits.0 c.into_vec.ensures (ap (λ m. node_names m.entries) c.self.view_is) in
     let room : length nodes < nodes_most = omega (arith, fits.1, length-map nodes node_entry, ap (λ m. length m.entries.nodes) c.self.view_is) in
     let small : IsWithinLimits c.args.supply.listing = record { short = c.requires.short; items = c.args.supply.valid.items_within; base = c.requires.base } in (
-      either_way (λ rows. IsWellFormed (table_entries rows arcs)) c.insert.result nodes _ _ c.insert.ensures.entries c.insert.ensures.err c.self.inside.formed
-          (node_keeps nodes arcs key c.args.supply c.self.inside.formed (subst IsName (sym c.into_vec.ensures) c.args.name.named) none room small),
-      tt,
+      c.self.inside.scaled,
+      (
+        either_way (λ rows. IsWellFormed (table_entries rows arcs)) c.insert.result nodes _ _ c.insert.ensures.entries c.insert.ensures.err c.self.inside.formed
+            (node_keeps nodes arcs key c.args.supply c.self.inside.formed (subst IsName (sym c.into_vec.ensures) c.args.name.named) none room small),
+        tt,
+      ),
     )
 
 pub returns-in-Ok-clause-added : goal.returns-in-Ok-clause-added
