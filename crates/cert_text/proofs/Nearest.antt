@@ -12,7 +12,8 @@ use Rattle.theory.specs.Cut.{holds}
 use Rattle.theory.specs.Grounded.{Entries, arc_name, node_name}
 use Rattle.theory.specs.Limits.{IsWithin, flow_most, sum_most}
 use Rattle.model_text.specs.Model.{IsWellFormed}
-use Rattle.model_text.specs.Printed.{printed_number, printed_line}
+use Rattle.model_text.specs.declared.scale.Scale.{Scale}
+use Rattle.model_text.specs.Printed.{printed_fixed, printed_line}
 use Rattle.cert_text.specs.CertificateText.{texts_below, number_line, potential_line, flow_line, node_line, side_line, step_line}
 use Rattle.cert_text.specs.Candidate.{first_line, after_line, line_at, left_at, takes, IsAsLike, IsLastNumber, AreLastNumbers, IsStepRead, IsNoStep}
 use Rattle.cert_text.proofs.LineEnds.{after-shift}
@@ -21,21 +22,21 @@ use Rattle.cert_text.proofs.Wholes.{whole_node, whole_step, mark_apart, number_w
 
 -- ---- lines with one number
 
-pub number_read : (keyword line : List ℕ) (z y : ℤ) → IsLastNumber sum_most line z → IsWithin sum_most y → line ≡ number_line keyword y
-    → number_line keyword z ≡ number_line keyword y
-number_read keyword line z y read within is = ap (number_line keyword) (read.found keyword y within (is ∙ number_words keyword y))
+pub number_read : (decimals : ℕ) (keyword line : List ℕ) (z y : ℤ) → IsLastNumber sum_most line z → IsWithin sum_most y → line ≡ number_line decimals keyword y
+    → number_line decimals keyword z ≡ number_line decimals keyword y
+number_read decimals keyword line z y read within is = ap (number_line decimals keyword) (read.found decimals keyword y within (is ∙ number_words decimals keyword y))
 
-pub flow_read : (m : Entries) (line : List ℕ) (x y : List ℤ) (j : ℕ) → IsLastNumber flow_most line («at» x j) → IsWithin flow_most («at» y j)
-    → line ≡ flow_line m y j → flow_line m x j ≡ flow_line m y j
-flow_read m line x y j read within is =
-    let line_of : ℤ → List ℕ = λ z. printed_line (arc_name m j) (printed_number z ∷ []) in
-    ap line_of (read.found (arc_name m j) («at» y j) within (is ∙ flow_words m y j))
+pub flow_read : (s : Scale) (m : Entries) (line : List ℕ) (x y : List ℤ) (j : ℕ) → IsLastNumber flow_most line («at» x j) → IsWithin flow_most («at» y j)
+    → line ≡ flow_line s m y j → flow_line s m x j ≡ flow_line s m y j
+flow_read s m line x y j read within is =
+    let line_of : ℤ → List ℕ = λ z. printed_line (arc_name m j) (printed_fixed s.flow z ∷ []) in
+    ap line_of (read.found s.flow (arc_name m j) («at» y j) within (is ∙ flow_words s m y j))
 
-pub pair_read : (m : Entries) (line : List ℕ) (u x v y : List ℤ) (i : ℕ) → AreLastNumbers line («at» u (i + 1)) («at» x i)
-    → IsWithin flow_most («at» v (i + 1)) → IsWithin flow_most («at» y i) → line ≡ potential_line m v y i → potential_line m u x i ≡ potential_line m v y i
-pair_read m line u x v y i read v_within y_within is =
-    let line_of : ℤ → ℤ → List ℕ = λ w z. printed_line (codes "node") (node_name m (i + 1) ∷ printed_number w ∷ printed_number z ∷ []) in
-    let same = read.found (codes "node" ++ 32 ∷ node_name m (i + 1)) («at» v (i + 1)) («at» y i) v_within y_within (is ∙ potential_words m v y i) in
+pub pair_read : (s : Scale) (m : Entries) (line : List ℕ) (u x v y : List ℤ) (i : ℕ) → AreLastNumbers line («at» u (i + 1)) («at» x i)
+    → IsWithin flow_most («at» v (i + 1)) → IsWithin flow_most («at» y i) → line ≡ potential_line s m v y i → potential_line s m u x i ≡ potential_line s m v y i
+pair_read s m line u x v y i read v_within y_within is =
+    let line_of : ℤ → ℤ → List ℕ = λ w z. printed_line (codes "node") (node_name m (i + 1) ∷ printed_fixed s.tension w ∷ printed_fixed s.flow z ∷ []) in
+    let same = read.found s.tension s.flow (codes "node" ++ 32 ∷ node_name m (i + 1)) («at» v (i + 1)) («at» y i) v_within y_within (is ∙ potential_words s m v y i) in
     ap (λ w. line_of w («at» x i)) same.0 ∙ ap (line_of («at» v (i + 1))) same.1
 
 module _ (m : Entries) (formed : IsWellFormed m) where

@@ -3,15 +3,10 @@
 -- and begin with whole lines begin with the same line. A line has one last word, and a printed number is that of one number. The
 -- marks of two sides are compared from the last node back: what stands behind begins with no line of the nodes up to this one, so
 -- this node's line stands there in both texts or in neither.
-use Rattle.std.proofs.Common.{◌≡◌, ◌≢◌, ℕ, zero, suc, ◌+◌, ◌-◌, ◌^◌, ◌<◌, ◌≤◌, Bool, true, false, if◌then◌else◌, bytes_eq, List, [], ◌∷◌, ◌++◌, length, get_or, take, refl, sym, ap, subst, ◌∙◌, arith, lit<, append_assoc, ⊎_elim}
-use Rattle.std.specs.Prelude.{ℤ, pos, negsuc, codes}
-use Rattle.std.specs.Char.{is_ascii_digit}
-use Rattle.std.specs.Fmt.{decimal}
+use Rattle.std.proofs.Common.{◌≡◌, ◌≢◌, ℕ, zero, suc, ◌+◌, ◌-◌, ◌^◌, ◌<◌, ◌≤◌, Bool, true, false, if◌then◌else◌, bytes_eq, List, [], ◌∷◌, ◌++◌, length, take, refl, sym, ap, subst, ◌∙◌, arith, lit<, append_assoc, ⊎_elim}
+use Rattle.std.specs.Prelude.{ℤ, codes}
 use Rattle.std.specs.List.{flat_map}
-use Rattle.std.specs.Str.Parse.{digits_value}
-use Rattle.std.proofs.lemmas.Bool.{both_ways, cases_order, cases_lt}
-use Rattle.std.proofs.lemmas.Fmt.{decimal_is_IsNumeral_wide}
-use Rattle.std.proofs.lemmas.Int.{ints}
+use Rattle.std.proofs.lemmas.Bool.{cases_order, cases_lt}
 use Rattle.std.proofs.lemmas.List.{append_cancel_left, append_cancel_right}
 use Rattle.theory.specs.declared.network.Step.{Step}
 use Rattle.theory.specs.Network.{«at»}
@@ -21,11 +16,13 @@ use Rattle.theory.specs.Grounded.{Entries, arc_name, node_name}
 use Rattle.theory.specs.Limits.{IsWithin, flow_most, sum_most}
 use Rattle.theory.specs.Certificate.{Certificate}
 use Rattle.model_text.specs.Model.{IsWellFormed}
-use Rattle.model_text.specs.Printed.{printed_number}
+use Rattle.model_text.specs.Printed.{printed_fixed}
+use Rattle.model_text.specs.NumberWords.{fixed_of}
+use Rattle.model_text.specs.declared.scale.Scale.{Scale}
+use Rattle.model_text.proofs.FixedNumbers.{fixed-read, small-by}
 use Rattle.cert_text.specs.BadLine.{pieces, IsRightFor, IsTextOf, IsBadLine}
 use Rattle.cert_text.specs.CertificateText.{texts_below, number_line, potential_line, flow_line, node_line, side_line, step_line}
 use Rattle.cert_text.specs.Candidate.{first_line, named_arc}
-use Rattle.cert_text.proofs.Digits.{digit_there}
 use Rattle.cert_text.proofs.Plain.{plain_number}
 use Rattle.cert_text.proofs.PieceLaws.{IsWhole, first-whole}
 use Rattle.cert_text.proofs.StepLines.{sign_of, kind_of, name_of, step_line_is, kind_plain, name_of_plain, named_found, sign_told, same_step}
@@ -34,8 +31,8 @@ use Rattle.cert_text.proofs.WordEnds.{one_split}
 
 -- ---- one bad line
 
-right_below : (m : Entries) (text : List ℕ) (k n : ℕ) → k ≤ n → IsRightFor m text n → IsRightFor m text k
-right_below m text k n less right = record {
+right_below : (s : Scale) (m : Entries) (text : List ℕ) (k n : ℕ) → k ≤ n → IsRightFor s m text n → IsRightFor s m text k
+right_below s m text k n less right = record {
   certificate = right.certificate;
   fits = right.fits;
   same = sym (take_take k n _ less) ∙ ap (take k) right.same ∙ take_take k n _ less;
@@ -47,47 +44,34 @@ right_below m text k n less right = record {
     take_take (suc k) (suc n) [] less = refl
     take_take (suc k) (suc n) (x ∷ xs) less = ap (λ l. x ∷ l) (take_take k n xs (omega arith))
 
-pub one_bad_line : (m : Entries) (text : List ℕ) (line other : ℕ) → IsBadLine m text line → IsBadLine m text other → line ≡ other
-one_bad_line m text line other bad also =
+pub one_bad_line : (s : Scale) (m : Entries) (text : List ℕ) (line other : ℕ) → IsBadLine s m text line → IsBadLine s m text other → line ≡ other
+one_bad_line s m text line other bad also =
     ⊎_elim (λ (same : line ≡ other). same)
-    (⊎_elim (λ (below : line < other). absurd (bad.wrong_with (right_below m text line (other - 1) (omega arith) also.right_before)))
-    (λ (above : other < line). absurd (also.wrong_with (right_below m text other (line - 1) (omega arith) bad.right_before))))
+    (⊎_elim (λ (below : line < other). absurd (bad.wrong_with (right_below s m text line (other - 1) (omega arith) also.right_before)))
+    (λ (above : other < line). absurd (also.wrong_with (right_below s m text other (line - 1) (omega arith) bad.right_before))))
     (cases_order line other)
 
-pub bad_line_has_none : (m : Entries) (text : List ℕ) (line : ℕ) (c : Certificate) → IsBadLine m text line → IsTextOf m text c → ⊥
-bad_line_has_none m text line c bad is =
+pub bad_line_has_none : (s : Scale) (m : Entries) (text : List ℕ) (line : ℕ) (c : Certificate) → IsBadLine s m text line → IsTextOf s m text c → ⊥
+bad_line_has_none s m text line c bad is =
     bad.wrong_with (record { certificate = c; fits = is.fits; same = ap (λ t. take line (pieces t)) is.spelled })
 
 -- ---- one number
 
-magnitude_is : (a b : ℕ) → a < 10 ^ 64 → b < 10 ^ 64 → decimal a ≡ decimal b → a ≡ b
-magnitude_is a b a_small b_small same = sym (decimal_is_IsNumeral_wide a a_small).1 ∙ ap (digits_value 10) same ∙ (decimal_is_IsNumeral_wide b b_small).1
-
--- `-` (45) is no digit
-no_minus : (n : ℕ) (rest : List ℕ) → n < 10 ^ 64 → decimal n ≢ 45 ∷ rest
-no_minus n rest small same =
-    both_ways (is_ascii_digit 45) refl (ap (λ l. is_ascii_digit (get_or l 0 0)) (sym same) ∙ digit_there (decimal n) n small refl 0 (omega (arith, ap length same)))
-
 rest_is : (b : ℕ) (xs ys : List ℕ) → b ∷ xs ≡ b ∷ ys → xs ≡ ys
 rest_is b xs ys same = cc
 
-number_is : (most : ℕ) (y z : ℤ) → most < 10 ^ 64 → IsWithin most y → IsWithin most z → printed_number y ≡ printed_number z → y ≡ z
-number_is most (pos a) (pos b) small y_within z_within same =
-    ap (λ n. pos n) (magnitude_is a b (omega (arith, ints, y_within.1)) (omega (arith, ints, z_within.1)) same)
-number_is most (negsuc a) (negsuc b) small y_within z_within same =
-    let e = magnitude_is (suc a) (suc b) (omega (arith, ints, y_within.0)) (omega (arith, ints, z_within.0)) (rest_is 45 (decimal (suc a)) (decimal (suc b)) same) in
-    let f : a ≡ b = omega arith in
-    ap (λ n. negsuc n) f
-number_is most (pos a) (negsuc b) small y_within z_within same = absurd (no_minus a (decimal (suc b)) (omega (arith, ints, y_within.1)) same)
-number_is most (negsuc a) (pos b) small y_within z_within same = absurd (no_minus b (decimal (suc a)) (omega (arith, ints, z_within.1)) (sym same))
+number_is : (decimals most : ℕ) (y z : ℤ) → most < 10 ^ 64 → IsWithin most y → IsWithin most z → printed_fixed decimals y ≡ printed_fixed decimals z → y ≡ z
+number_is decimals most y z small y_within z_within same =
+    let read = sym (fixed-read decimals y (omega (arith, small-by most y y_within))) ∙ ap (fixed_of decimals) same ∙ fixed-read decimals z (omega (arith, small-by most z z_within)) in
+    cc
 
-last_number_is : (most : ℕ) (front : List ℕ) (y z : ℤ) → most < 10 ^ 64 → IsWithin most y → IsWithin most z
-    → front ++ 32 ∷ printed_number y ++ 10 ∷ [] ≡ front ++ 32 ∷ printed_number z ++ 10 ∷ [] → y ≡ z
-last_number_is most front y z small y_within z_within same =
-    number_is most y z small y_within z_within
-    (rest_is 32 (printed_number y) (printed_number z)
-    (append_cancel_left front (32 ∷ printed_number y) (32 ∷ printed_number z)
-    (append_cancel_right (front ++ 32 ∷ printed_number y) (front ++ 32 ∷ printed_number z) (10 ∷ []) same)))
+last_number_is : (decimals most : ℕ) (front : List ℕ) (y z : ℤ) → most < 10 ^ 64 → IsWithin most y → IsWithin most z
+    → front ++ 32 ∷ printed_fixed decimals y ++ 10 ∷ [] ≡ front ++ 32 ∷ printed_fixed decimals z ++ 10 ∷ [] → y ≡ z
+last_number_is decimals most front y z small y_within z_within same =
+    number_is decimals most y z small y_within z_within
+    (rest_is 32 (printed_fixed decimals y) (printed_fixed decimals z)
+    (append_cancel_left front (32 ∷ printed_fixed decimals y) (32 ∷ printed_fixed decimals z)
+    (append_cancel_right (front ++ 32 ∷ printed_fixed decimals y) (front ++ 32 ∷ printed_fixed decimals z) (10 ∷ []) same)))
 
 -- ---- one line after the other
 
@@ -111,27 +95,27 @@ texts_are (suc n) mine theirs wholes rest behind same =
       last.1,
     )
 
-pub cost_is : (keyword : List ℕ) (y z : ℤ) → IsWithin sum_most y → IsWithin sum_most z → number_line keyword y ≡ number_line keyword z → y ≡ z
-cost_is keyword y z y_within z_within same =
-    last_number_is sum_most keyword y z (lit< tt) y_within z_within (sym (number_words keyword y) ∙ same ∙ number_words keyword z)
+pub cost_is : (decimals : ℕ) (keyword : List ℕ) (y z : ℤ) → IsWithin sum_most y → IsWithin sum_most z → number_line decimals keyword y ≡ number_line decimals keyword z → y ≡ z
+cost_is decimals keyword y z y_within z_within same =
+    last_number_is decimals sum_most keyword y z (lit< tt) y_within z_within (sym (number_words decimals keyword y) ∙ same ∙ number_words decimals keyword z)
 
-pub flow_is : (m : Entries) (x y : List ℤ) (j : ℕ) → IsWithin flow_most («at» x j) → IsWithin flow_most («at» y j) → flow_line m x j ≡ flow_line m y j → «at» x j ≡ «at» y j
-flow_is m x y j x_within y_within same =
-    last_number_is flow_most (arc_name m j) («at» x j) («at» y j) (lit< tt) x_within y_within (sym (flow_words m x j) ∙ same ∙ flow_words m y j)
+pub flow_is : (s : Scale) (m : Entries) (x y : List ℤ) (j : ℕ) → IsWithin flow_most («at» x j) → IsWithin flow_most («at» y j) → flow_line s m x j ≡ flow_line s m y j → «at» x j ≡ «at» y j
+flow_is s m x y j x_within y_within same =
+    last_number_is s.flow flow_most (arc_name m j) («at» x j) («at» y j) (lit< tt) x_within y_within (sym (flow_words s m x j) ∙ same ∙ flow_words s m y j)
 
-pub pair_is : (m : Entries) (u x v y : List ℤ) (i : ℕ) → IsWithin flow_most («at» u (i + 1)) → IsWithin flow_most («at» x i)
-    → IsWithin flow_most («at» v (i + 1)) → IsWithin flow_most («at» y i) → potential_line m u x i ≡ potential_line m v y i
+pub pair_is : (s : Scale) (m : Entries) (u x v y : List ℤ) (i : ℕ) → IsWithin flow_most («at» u (i + 1)) → IsWithin flow_most («at» x i)
+    → IsWithin flow_most («at» v (i + 1)) → IsWithin flow_most («at» y i) → potential_line s m u x i ≡ potential_line s m v y i
     → («at» u (i + 1) ≡ «at» v (i + 1)) × («at» x i ≡ «at» y i)
-pair_is m u x v y i u_within x_within v_within y_within same =
+pair_is s m u x v y i u_within x_within v_within y_within same =
     let node = codes "node" ++ 32 ∷ node_name m (i + 1) in
-    let p = printed_number («at» u (i + 1)) in
-    let q = printed_number («at» v (i + 1)) in
-    let r = printed_number («at» x i) in
-    let s = printed_number («at» y i) in
-    let words = append_cancel_right (node ++ 32 ∷ p ++ 32 ∷ r) (node ++ 32 ∷ q ++ 32 ∷ s) (10 ∷ []) (sym (potential_words m u x i) ∙ same ∙ potential_words m v y i) in
-    let parts = one_split (node ++ 32 ∷ p) (node ++ 32 ∷ q) r s (plain_number («at» x i) flow_most x_within (lit< tt)) (plain_number («at» y i) flow_most y_within (lit< tt)) words in (
-      number_is flow_most («at» u (i + 1)) («at» v (i + 1)) (lit< tt) u_within v_within (rest_is 32 p q (append_cancel_left node (32 ∷ p) (32 ∷ q) parts.0)),
-      number_is flow_most («at» x i) («at» y i) (lit< tt) x_within y_within parts.1,
+    let p = printed_fixed s.tension («at» u (i + 1)) in
+    let q = printed_fixed s.tension («at» v (i + 1)) in
+    let r = printed_fixed s.flow («at» x i) in
+    let w = printed_fixed s.flow («at» y i) in
+    let words = append_cancel_right (node ++ 32 ∷ p ++ 32 ∷ r) (node ++ 32 ∷ q ++ 32 ∷ w) (10 ∷ []) (sym (potential_words s m u x i) ∙ same ∙ potential_words s m v y i) in
+    let parts = one_split (node ++ 32 ∷ p) (node ++ 32 ∷ q) r w (plain_number s.flow («at» x i) flow_most x_within (lit< tt)) (plain_number s.flow («at» y i) flow_most y_within (lit< tt)) words in (
+      number_is s.tension flow_most («at» u (i + 1)) («at» v (i + 1)) (lit< tt) u_within v_within (rest_is 32 p q (append_cancel_left node (32 ∷ p) (32 ∷ q) parts.0)),
+      number_is s.flow flow_most («at» x i) («at» y i) (lit< tt) x_within y_within parts.1,
     )
 
 module _ (m : Entries) (formed : IsWellFormed m) where

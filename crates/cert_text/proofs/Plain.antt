@@ -1,25 +1,18 @@
 -- Names and printed numbers have neither spaces nor LFs.
-use Rattle.std.proofs.Common.{◌≡◌, ℕ, suc, ◌+◌, ◌<◌, ◌%◌, ◌^◌, true, List, [], ◌∷◌, ◌++◌, refl, ◌∙◌, arith, nat_lt}
-use Rattle.std.specs.Prelude.{ℤ, pos, negsuc}
+use Rattle.std.proofs.Common.{◌≡◌, ℕ, ◌<◌, ◌^◌, true, List, [], ◌∷◌, ◌++◌, refl, ◌∙◌, arith, nat_lt}
+use Rattle.std.specs.Prelude.{ℤ}
 use Rattle.std.specs.List.{list_all}
-use Rattle.std.specs.Fmt.{decimal, signed_decimal}
 use Rattle.std.proofs.lemmas.Bool.{lt-ltb, ltb-true, and_parts, and_from}
 use Rattle.std.proofs.lemmas.Bool.Decides.{nat_tests}
-use Rattle.std.proofs.lemmas.Fmt.{decimal_by_steps_wide}
 use Rattle.std.proofs.lemmas.List.Folds.{list_all-append}
-use Rattle.std.proofs.lemmas.Int.{ints}
 use Rattle.theory.specs.Limits.{IsWithin}
 use Rattle.model_text.specs.Names.{IsName, is_name_byte}
+use Rattle.model_text.specs.Printed.{printed_fixed}
+use Rattle.model_text.proofs.FixedNumbers.{is_plain, all-so, small-by, fixed-plain}
 use Rattle.cert_text.specs.Candidate.{IsPlain}
 
 pub plain_append : (a b : List ℕ) → IsPlain a → IsPlain b → IsPlain (a ++ b)
 plain_append a b p q = list_all-append (nat_lt 32) a b ∙ and_from _ _ p q
-
-digit_above : (d : ℕ) → IsPlain ((48 + d) ∷ [])
-digit_above d = and_from (nat_lt 32 (48 + d)) true (lt-ltb 32 (48 + d) (omega arith)) refl
-
-pub plain_decimal : (n : ℕ) → n < 10 ^ 64 → IsPlain (decimal n)
-plain_decimal = decimal_by_steps_wide (λ n ds. IsPlain ds) (λ n small. digit_above n) (λ n ds large plain. plain_append ds _ plain (digit_above (n % 10)))
 
 byte_above : (b : ℕ) → is_name_byte b ≡ true → nat_lt 32 b ≡ true
 byte_above b is = grind (arith, nat_tests)
@@ -33,9 +26,9 @@ bytes_above (b ∷ bs) all =
 pub plain_name : (name : List ℕ) → IsName name → IsPlain name
 plain_name name named = bytes_above name (and_parts _ (list_all is_name_byte name) named).1
 
-pub plain_number : (z : ℤ) (most : ℕ) → IsWithin most z → most < 10 ^ 64 → IsPlain (signed_decimal z)
-plain_number (pos n) most fits small = plain_decimal n (omega (arith, ints))
-plain_number (negsuc n) most fits small = plain_decimal (suc n) (omega (arith, ints))
+pub plain_number : (decimals : ℕ) (z : ℤ) (most : ℕ) → IsWithin most z → most < 10 ^ 64 → IsPlain (printed_fixed decimals z)
+plain_number decimals z most fits small =
+    all-so is_plain (nat_lt 32) (λ b is. grind (arith, nat_tests)) (printed_fixed decimals z) (fixed-plain decimals z (omega (arith, small-by most z fits))).0
 
 -- a plain word has no LF
 pub no_feed : (word : List ℕ) → IsPlain word → list_all (nat_lt 10) word ≡ true

@@ -3,11 +3,12 @@
 -- nodes do and none is `*`, as the ground is called. So a text that begins with no line of the nodes up to n still begins with
 -- no line of those below n once node n's mark stands in front of it, whether that mark is a line or nothing. The numbers of a
 -- line stand at its end, each behind a space: what is in front of them is the keyword, the node or the arc.
-use Rattle.std.proofs.Common.{◌≡◌, ◌≢◌, ℕ, zero, suc, ◌+◌, ◌^◌, ◌<◌, nat_lt, Bool, true, false, bytes_eq, List, [], ◌∷◌, ◌++◌, length, refl, sym, ap, subst, ◌∙◌, arith, lit<, append-nil, append_assoc, if◌then◌else◌}
+use Rattle.std.proofs.Common.{◌≡◌, ◌≢◌, ℕ, zero, suc, ◌+◌, ◌^◌, ◌<◌, nat_lt, Bool, true, false, ◌&&◌, bytes_eq, List, [], ◌∷◌, ◌++◌, length, refl, sym, ap, subst, ◌∙◌, arith, lit<, append-nil, append_assoc, if◌then◌else◌}
 use Rattle.std.specs.Prelude.{ℤ, codes}
 use Rattle.std.specs.List.{list_all}
 use Rattle.std.specs.Cmp.Lexicographic.{bytes_decides}
 use Rattle.std.proofs.lemmas.Bool.{and_from, both_ways}
+use Rattle.std.proofs.lemmas.Bool.Decides.{nat_tests}
 use Rattle.std.proofs.lemmas.List.{append_cancel_left, append_cancel_right, length-map}
 use Rattle.std.proofs.lemmas.List.Folds.{list_all-append}
 use Rattle.theory.specs.declared.network.Step.{Step}
@@ -15,8 +16,10 @@ use Rattle.theory.specs.Network.{«at»}
 use Rattle.theory.specs.Grounded.{Entries, NodeEntry, arc_name, node_name}
 use Rattle.theory.specs.Limits.{IsWithin, flow_most, sum_most}
 use Rattle.model_text.specs.Model.{IsWellFormed, node_at}
+use Rattle.model_text.specs.declared.scale.Scale.{Scale}
+use Rattle.model_text.specs.ModelText.{digit_word}
 use Rattle.model_text.specs.Names.{is_name}
-use Rattle.model_text.specs.Printed.{printed_line, printed_number, spaced}
+use Rattle.model_text.specs.Printed.{printed_line, printed_fixed, spaced}
 use Rattle.cert_text.specs.CertificateText.{head_line, number_line, potential_line, flow_line, node_line, step_line}
 use Rattle.cert_text.specs.Candidate.{first_line}
 use Rattle.cert_text.proofs.PieceLaws.{IsWhole, whole, first-whole}
@@ -42,14 +45,17 @@ all_spaced (word ∷ words) each = joined (32 ∷ word) (spaced words) each.0 (a
 whole_line : (keyword : List ℕ) (words : List (List ℕ)) → HasNoFeed keyword → HaveNoFeed words → IsWhole (printed_line keyword words)
 whole_line keyword words key each = whole (keyword ++ spaced words) (joined keyword (spaced words) key (all_spaced words each))
 
-pub whole_head : (kind : List ℕ) → list_all (nat_lt 10) kind ≡ true → IsWhole (head_line kind)
-whole_head kind plain = whole_line (codes "certificate") (codes "1" ∷ kind ∷ []) refl (refl, (plain, tt))
+digit_feed : (digit : ℕ) → HasNoFeed (digit_word digit)
+digit_feed digit = let above : nat_lt 10 (48 + digit) ≡ true = grind (arith, nat_tests) in rw above refl
 
-number_feed : (most : ℕ) (z : ℤ) → most < 10 ^ 64 → IsWithin most z → HasNoFeed (printed_number z)
-number_feed most z small within = no_feed (printed_number z) (plain_number z most within small)
+pub whole_head : (s : Scale) (kind : List ℕ) → list_all (nat_lt 10) kind ≡ true → IsWhole (head_line s kind)
+whole_head s kind plain = whole_line (codes "certificate") (digit_word s.version ∷ kind ∷ []) refl (digit_feed s.version, (plain, tt))
 
-pub whole_number : (keyword : List ℕ) (z : ℤ) → list_all (nat_lt 10) keyword ≡ true → IsWithin sum_most z → IsWhole (number_line keyword z)
-whole_number keyword z plain within = whole_line keyword (printed_number z ∷ []) plain (number_feed sum_most z (lit< tt) within, tt)
+number_feed : (decimals most : ℕ) (z : ℤ) → most < 10 ^ 64 → IsWithin most z → HasNoFeed (printed_fixed decimals z)
+number_feed decimals most z small within = no_feed (printed_fixed decimals z) (plain_number decimals z most within small)
+
+pub whole_number : (decimals : ℕ) (keyword : List ℕ) (z : ℤ) → list_all (nat_lt 10) keyword ≡ true → IsWithin sum_most z → IsWhole (number_line decimals keyword z)
+whole_number decimals keyword z plain within = whole_line keyword (printed_fixed decimals z ∷ []) plain (number_feed decimals sum_most z (lit< tt) within, tt)
 
 module _ (m : Entries) (formed : IsWellFormed m) where
   node_feed : (i : ℕ) → i < length m.nodes + 1 → HasNoFeed (node_name m i)
@@ -61,15 +67,15 @@ module _ (m : Entries) (formed : IsWellFormed m) where
       subst HasNoFeed (sym (arc_name_is m j))
       (joined (kind_of m j) (32 ∷ name_of m j) (no_feed (kind_of m j) (kind_plain m j)) (no_feed (name_of m j) (name_of_plain m formed j here)))
 
-  pub whole_potential : (u x : List ℤ) (i : ℕ) → i < length m.nodes → IsWithin flow_most («at» u (i + 1)) → IsWithin flow_most («at» x i)
-      → IsWhole (potential_line m u x i)
-  whole_potential u x i here u_within x_within =
-      whole_line (codes "node") (node_name m (i + 1) ∷ printed_number («at» u (i + 1)) ∷ printed_number («at» x i) ∷ []) refl
-      (node_feed (i + 1) (omega arith), (number_feed flow_most («at» u (i + 1)) (lit< tt) u_within, (number_feed flow_most («at» x i) (lit< tt) x_within, tt)))
+  pub whole_potential : (s : Scale) (u x : List ℤ) (i : ℕ) → i < length m.nodes → IsWithin flow_most («at» u (i + 1)) → IsWithin flow_most («at» x i)
+      → IsWhole (potential_line s m u x i)
+  whole_potential s u x i here u_within x_within =
+      whole_line (codes "node") (node_name m (i + 1) ∷ printed_fixed s.tension («at» u (i + 1)) ∷ printed_fixed s.flow («at» x i) ∷ []) refl
+      (node_feed (i + 1) (omega arith), (number_feed s.tension flow_most («at» u (i + 1)) (lit< tt) u_within, (number_feed s.flow flow_most («at» x i) (lit< tt) x_within, tt)))
 
-  pub whole_flow : (x : List ℤ) (j : ℕ) → j < length m.nodes + length m.arcs → IsWithin flow_most («at» x j) → IsWhole (flow_line m x j)
-  whole_flow x j here within =
-      whole_line (arc_name m j) (printed_number («at» x j) ∷ []) (arc_feed j here) (number_feed flow_most («at» x j) (lit< tt) within, tt)
+  pub whole_flow : (s : Scale) (x : List ℤ) (j : ℕ) → j < length m.nodes + length m.arcs → IsWithin flow_most («at» x j) → IsWhole (flow_line s m x j)
+  whole_flow s x j here within =
+      whole_line (arc_name m j) (printed_fixed s.flow («at» x j) ∷ []) (arc_feed j here) (number_feed s.flow flow_most («at» x j) (lit< tt) within, tt)
 
   pub whole_node : (i : ℕ) → i < length m.nodes + 1 → IsWhole (node_line m i)
   whole_node i here = whole_line (codes "side") (node_name m i ∷ []) refl (node_feed i here, tt)
@@ -109,21 +115,25 @@ module _ (m : Entries) (formed : IsWellFormed m) where
 
 -- ---- words at the end of a line
 
-pub number_words : (keyword : List ℕ) (z : ℤ) → number_line keyword z ≡ keyword ++ 32 ∷ printed_number z ++ 10 ∷ []
-number_words keyword z = rw (append-nil (printed_number z)) refl
+pub number_words : (decimals : ℕ) (keyword : List ℕ) (z : ℤ) → number_line decimals keyword z ≡ keyword ++ 32 ∷ printed_fixed decimals z ++ 10 ∷ []
+number_words decimals keyword z = rw (append-nil (printed_fixed decimals z)) refl
 
-pub flow_words : (m : Entries) (x : List ℤ) (j : ℕ) → flow_line m x j ≡ arc_name m j ++ 32 ∷ printed_number («at» x j) ++ 10 ∷ []
-flow_words m x j = rw (append-nil (printed_number («at» x j))) refl
+pub flow_words : (s : Scale) (m : Entries) (x : List ℤ) (j : ℕ) → flow_line s m x j ≡ arc_name m j ++ 32 ∷ printed_fixed s.flow («at» x j) ++ 10 ∷ []
+flow_words s m x j = rw (append-nil (printed_fixed s.flow («at» x j))) refl
 
 words_of_three : (name u y : List ℕ) → (name ++ (32 ∷ (u ++ (32 ∷ (y ++ []))))) ++ 10 ∷ [] ≡ name ++ 32 ∷ u ++ 32 ∷ y ++ 10 ∷ []
 words_of_three name u y = ap (λ l. name ++ (32 ∷ (u ++ (32 ∷ l))) ++ 10 ∷ []) (append-nil y) ∙ ap (λ l. l ++ 10 ∷ []) (sym (append_assoc name (32 ∷ u) (32 ∷ y)))
 
-pub potential_words : (m : Entries) (u x : List ℤ) (i : ℕ)
-    → potential_line m u x i ≡ (codes "node" ++ 32 ∷ node_name m (i + 1)) ++ 32 ∷ printed_number («at» u (i + 1)) ++ 32 ∷ printed_number («at» x i) ++ 10 ∷ []
-potential_words m u x i =
-    ap (λ l. codes "node " ++ l) (words_of_three (node_name m (i + 1)) (printed_number («at» u (i + 1))) (printed_number («at» x i)))
+pub potential_words : (s : Scale) (m : Entries) (u x : List ℤ) (i : ℕ)
+    → potential_line s m u x i ≡ (codes "node" ++ 32 ∷ node_name m (i + 1)) ++ 32 ∷ printed_fixed s.tension («at» u (i + 1)) ++ 32 ∷ printed_fixed s.flow («at» x i) ++ 10 ∷ []
+potential_words s m u x i =
+    ap (λ l. codes "node " ++ l) (words_of_three (node_name m (i + 1)) (printed_fixed s.tension («at» u (i + 1))) (printed_fixed s.flow («at» x i)))
 
 -- ---- heads differ
+
+pub no_matter : (b : Bool) → (b && false) ≡ false
+no_matter true = refl
+no_matter false = refl
 
 pub heads_apart : (a b : List ℕ) → bytes_eq a b ≡ false → a ≢ b
 heads_apart a b test same = both_ways (bytes_eq a b) test ((bytes_decides a b).1 same)

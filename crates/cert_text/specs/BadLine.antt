@@ -1,6 +1,7 @@
 -- The first bad line of a text that is no certificate's.
 use Rattle.std.specs.Prelude.{◌≡◌, ℕ, ◌-◌, ◌≤◌, ◌==◌, if◌then◌else◌, List, [], ◌∷◌, take}
 use Rattle.theory.specs.Grounded.{Entries, grounded}
+use Rattle.model_text.specs.declared.scale.Scale.{Scale}
 use Rattle.theory.specs.Certificate.{Certificate, Fits}
 use Rattle.cert_text.specs.CertificateText.{certificate_text}
 use Rattle.cert_text.specs.declared.read.CertFault.{CertFault}
@@ -18,22 +19,22 @@ pieces [] = [] ∷ []
 pieces (b ∷ bs) = if b == 10 then (10 ∷ []) ∷ pieces bs else onto_first b (pieces bs)
 
 -- the text of some certificate that fits begins with the first k pieces of this text
-pub record IsRightFor (m : Entries) (text : List ℕ) (k : ℕ) : Type 0 where
+pub record IsRightFor (s : Scale) (m : Entries) (text : List ℕ) (k : ℕ) : Type 0 where
   pub certificate : Certificate
   pub fits : Fits (grounded m) certificate
-  pub same : take k (pieces (certificate_text m certificate)) ≡ take k (pieces text)
+  pub same : take k (pieces (certificate_text s m certificate)) ≡ take k (pieces text)
 
 -- the first line, from 1, with which the text is right for no certificate; the one behind the last where the text ends too early
-pub record IsBadLine (m : Entries) (text : List ℕ) (line : ℕ) : Type 0 where
+pub record IsBadLine (s : Scale) (m : Entries) (text : List ℕ) (line : ℕ) : Type 0 where
   pub from_one : 1 ≤ line
-  pub right_before : IsRightFor m text (line - 1)
-  pub wrong_with : ¬ IsRightFor m text line
+  pub right_before : IsRightFor s m text (line - 1)
+  pub wrong_with : ¬ IsRightFor s m text line
 
 -- the text is this certificate's, which fits
-pub record IsTextOf (m : Entries) (text : List ℕ) (c : Certificate) : Type 0 where
+pub record IsTextOf (s : Scale) (m : Entries) (text : List ℕ) (c : Certificate) : Type 0 where
   pub fits : Fits (grounded m) c
-  pub spelled : certificate_text m c ≡ text
+  pub spelled : certificate_text s m c ≡ text
 
-abbrev pub IsFaultOf : Entries → List ℕ → CertFault → Type 0
-IsFaultOf m text (BadText line) = IsBadLine m text line
-IsFaultOf m text NoMemory = Unit {0}
+abbrev pub IsFaultOf : Scale → Entries → List ℕ → CertFault → Type 0
+IsFaultOf s m text (BadText line) = IsBadLine s m text line
+IsFaultOf s m text NoMemory = Unit {0}

@@ -9,11 +9,12 @@ use Rattle.theory.specs.Network.{«at»}
 use Rattle.theory.specs.Cut.{holds}
 use Rattle.theory.specs.Circuit.{step}
 use Rattle.theory.specs.Grounded.{Entries, grounded}
+use Rattle.model_text.specs.declared.scale.Scale.{Scale}
 use Rattle.theory.specs.Limits.{IsWithin, flow_most, sum_most}
 use Rattle.theory.specs.Certificate.{Certificate, Fits}
 use Rattle.theory.specs.Certificate.Certificate.{optimal, cut, circuit}
 use Rattle.model_text.specs.Model.{node_names, arc_names, place_of}
-use Rattle.model_text.specs.Printed.{printed_number}
+use Rattle.model_text.specs.Printed.{printed_fixed}
 use Rattle.cert_text.specs.CertificateText.{certificate_text, node_line, step_line}
 use Rattle.cert_text.specs.BadLine.{pieces}
 
@@ -42,17 +43,17 @@ line_at text n = first_line (after n text)
 abbrev pub IsPlain : List ℕ → Type 0
 IsPlain word = list_all (nat_lt 32) word ≡ true
 
--- the number at the end of a line; any number within the limit where none ends it
+-- the number at the end of a line, however many decimals it has; any number within the limit where none ends it
 pub record IsLastNumber (most : ℕ) (line : List ℕ) (z : ℤ) : Type 0 where
   pub within : IsWithin most z
-  pub found : (front : List ℕ) (y : ℤ) → IsWithin most y → line ≡ front ++ 32 ∷ printed_number y ++ 10 ∷ [] → z ≡ y
+  pub found : (decimals : ℕ) (front : List ℕ) (y : ℤ) → IsWithin most y → line ≡ front ++ 32 ∷ printed_fixed decimals y ++ 10 ∷ [] → z ≡ y
 
 -- the two numbers at the end of a line
 pub record AreLastNumbers (line : List ℕ) (u y : ℤ) : Type 0 where
   pub first_within : IsWithin flow_most u
   pub second_within : IsWithin flow_most y
-  pub found : (front : List ℕ) (v z : ℤ) → IsWithin flow_most v → IsWithin flow_most z
-      → line ≡ front ++ 32 ∷ printed_number v ++ 32 ∷ printed_number z ++ 10 ∷ [] → (u ≡ v) × (y ≡ z)
+  pub found : (decimals others : ℕ) (front : List ℕ) (v z : ℤ) → IsWithin flow_most v → IsWithin flow_most z
+      → line ≡ front ++ 32 ∷ printed_fixed decimals v ++ 32 ∷ printed_fixed others z ++ 10 ∷ [] → (u ≡ v) × (y ≡ z)
 
 -- the step that a line spells; any step over an arc that is there where it spells none
 pub record IsStepRead (m : Entries) (line : List ℕ) (s : Step) : Type 0 where
@@ -128,9 +129,9 @@ abbrev pub IsAsLike : List ℕ → List ℕ → List ℕ → Type 0
 IsAsLike text own other = (k : ℕ) → take k (pieces other) ≡ take k (pieces text) → take k (pieces own) ≡ take k (pieces text)
 
 -- no certificate that fits has a text that is like this one any farther
-pub record IsCandidate (m : Entries) (text : List ℕ) (c : Certificate) : Type 0 where
+pub record IsCandidate (s : Scale) (m : Entries) (text : List ℕ) (c : Certificate) : Type 0 where
   pub fits : Fits (grounded m) c
-  pub like : (d : Certificate) → Fits (grounded m) d → IsAsLike text (certificate_text m c) (certificate_text m d)
+  pub like : (d : Certificate) → Fits (grounded m) d → IsAsLike text (certificate_text s m c) (certificate_text s m d)
 
 -- the line, from 1, at which two texts begin to differ
 pub record IsFirstDifference (text other : List ℕ) (line : ℕ) : Type 0 where

@@ -1,5 +1,6 @@
 // The certificate that a text would be that of, read from the ends of its lines alone.
-ghost use Rattle.std.specs.Prelude.{◌≡◌, ◌+◌, ◌^◌, ◌<◌, ◌≤◌, [], ◌∷◌, pos, length, IfOk, OnOk, MatchOption};
+ghost use Rattle.std.specs.Prelude.{◌≡◌, ◌+◌, ◌^◌, ◌<◌, ◌≤◌, [], ◌∷◌, pos, length, codes, IfOk, OnOk, MatchOption};
+ghost use Rattle.cert_text.specs.CertificateText.{head_line};
 ghost use Rattle.cert_text.specs.Candidate.{after, IsCandidate, IsOptimalRead, IsCutRead, IsCircuitRead, AreFlowsRead, ArePairsRead, IsSideRead, IsStepRead, IsNoStep, named_arc, AreStepsRead, line_at};
 ghost use Rattle.cert_text.specs.Shown.{shown};
 
@@ -15,15 +16,28 @@ use theory::{ArcId, Step};
 /// A certificate whose text is like this one as far as that of any certificate is.
 pub(crate) fn candidate(alloc: Global, m: &Model, text: &[u8]) -> Result<Certificate, AllocError>
     requires { length text.now ≤ 2 ^ 26 }
-    ensures { IfOk result (λ c. IsCandidate m.now.entries text.now (shown c)) }
+    ensures { IfOk result (λ c. IsCandidate m.now.scale m.now.entries text.now (shown c)) }
 {
     let (head, rest) = split_line(text);
-    if head == b"certificate 1 cut\n".as_slice() {
+    let (cut, circuit) = heads(m);
+    if head == cut {
         candidate_cut(alloc, m, rest)
-    } else if head == b"certificate 1 circuit\n".as_slice() {
+    } else if head == circuit {
         candidate_circuit(alloc, m, rest)
     } else {
         candidate_optimal(alloc, m, rest)
+    }
+}
+
+/// The heads of cuts and of circuits, by the version of the model.
+fn heads(m: &Model) -> (&'static [u8], &'static [u8])
+    ensures cut { result.0.now ≡ head_line m.now.scale (codes "cut") }
+    ensures circuit { result.1.now ≡ head_line m.now.scale (codes "circuit") }
+{
+    if m.scale().version == 1 {
+        (b"certificate 1 cut\n", b"certificate 1 circuit\n")
+    } else {
+        (b"certificate 2 cut\n", b"certificate 2 circuit\n")
     }
 }
 

@@ -36,7 +36,7 @@ pub fn print_feasible(
 ) -> Result<ByteText, AllocError>
     requires flow { FlowFits (grounded m.now.entries) flow.now }
     requires tension { TensionFits (grounded m.now.entries) tension.now }
-    ensures { IfOk result (λ text. text ≡ feasibility_text m.now.entries flow.now tension.now) }
+    ensures { IfOk result (λ text. text ≡ feasibility_text m.now.scale m.now.entries flow.now tension.now) }
 {
     let mut out = Vec::new(alloc);
     append_flow_part(&mut out, m, flow)?;
@@ -46,7 +46,7 @@ pub fn print_feasible(
 
 fn append_flow_part(out: &mut Vec<u8>, m: &Model, flow: &FlowPart) -> Result<(), AllocError>
     requires { FlowFits (grounded m.now.entries) flow.now }
-    ensures { OnOk result (out.new.items ≡ out.old.items ++ flow_text m.now.entries flow.now) }
+    ensures { OnOk result (out.new.items ≡ out.old.items ++ flow_text m.now.scale m.now.entries flow.now) }
 {
     match flow {
         FlowPart::Yes(x) => {
@@ -55,7 +55,7 @@ fn append_flow_part(out: &mut Vec<u8>, m: &Model, flow: &FlowPart) -> Result<(),
             append_arcs(out, m, x.as_slice())
         }
         FlowPart::No { side, capacity } => {
-            append_number_line(out, b"flow no", *capacity)?;
+            append_number_line(out, b"flow no", *capacity, m.scale().flow)?;
             append_side(out, m, side.as_slice())
         }
     }
@@ -67,7 +67,7 @@ fn append_tension_part(
     tension: &TensionPart,
 ) -> Result<(), AllocError>
     requires { TensionFits (grounded m.now.entries) tension.now }
-    ensures { OnOk result (out.new.items ≡ out.old.items ++ tension_text m.now.entries tension.now) }
+    ensures { OnOk result (out.new.items ≡ out.old.items ++ tension_text m.now.scale m.now.entries tension.now) }
 {
     match tension {
         TensionPart::Yes(u) => {
@@ -75,7 +75,7 @@ fn append_tension_part(
             append_tensions(out, m, u.as_slice())
         }
         TensionPart::No { walk, span } => {
-            append_number_line(out, b"tension no", *span)?;
+            append_number_line(out, b"tension no", *span, m.scale().tension)?;
             append_walk(out, m, walk.as_slice())
         }
     }
@@ -85,7 +85,7 @@ fn append_tension_part(
 fn append_tensions(out: &mut Vec<u8>, m: &Model, u: &[i64]) -> Result<(), AllocError>
     requires { length u.now ≡ length m.now.entries.nodes + 1 }
     ensures { OnOk result (out.new.items
-        ≡ out.old.items ++ texts_below (length m.now.entries.nodes) (tension_line m.now.entries u.now)) }
+        ≡ out.old.items ++ texts_below (length m.now.entries.nodes) (tension_line m.now.scale m.now.entries u.now)) }
 {
     for i in 0..m.nodes() {
         append_tension(out, m, u, i)?;
@@ -96,11 +96,11 @@ fn append_tensions(out: &mut Vec<u8>, m: &Model, u: &[i64]) -> Result<(), AllocE
 fn append_tension(out: &mut Vec<u8>, m: &Model, u: &[i64], i: u32) -> Result<(), AllocError>
     requires there { i < length m.now.entries.nodes }
     requires one_each { length u.now ≡ length m.now.entries.nodes + 1 }
-    ensures { OnOk result (out.new.items ≡ out.old.items ++ tension_line m.now.entries u.now i) }
+    ensures { OnOk result (out.new.items ≡ out.old.items ++ tension_line m.now.scale m.now.entries u.now i) }
 {
     out.extend_from_slice(b"node")?;
     append_node_name(out, m, i + 1)?;
-    append_number_at(out, u, i + 1)?;
+    append_number_at(out, u, i + 1, m.scale().tension)?;
     out.push(b'\n')?;
     Ok(())
 }

@@ -3,6 +3,8 @@
 
 mod candidate;
 mod certificate;
+#[cfg(test)]
+mod decimals_tests;
 mod feasible;
 mod lines;
 mod numbers;

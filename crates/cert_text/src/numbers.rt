@@ -1,8 +1,7 @@
 // Numbers at the ends of lines.
 ghost use Rattle.std.specs.Prelude.{◌≡◌, ℕ, ◌^◌, ◌≤◌, ℤ};
-ghost use Rattle.std.specs.Fmt.{decimal};
 ghost use Rattle.theory.specs.Limits.{IsWithin, flow_most, sum_most};
-ghost use Rattle.model_text.specs.Printed.{printed_number};
+ghost use Rattle.model_text.specs.Printed.{printed_fixed, printed_units};
 ghost use Rattle.cert_text.specs.Candidate.{IsLastNumber, AreLastNumbers};
 
 use crate::certificate::SUM_MOST;
@@ -35,11 +34,11 @@ pub(crate) fn last_pair(line: &[u8]) -> (i64, i64)
     )
 }
 
-/// The number that the word is the printed form of; some number within the limit for any other word.
+/// The number that the word is the printed form of, with any decimals; some number within the limit for any other word.
 fn number_of(word: &[u8], most: u128) -> i128
     requires { most ≤ 10 ^ 30 }
     ensures within { IsWithin most result }
-    ensures found { (z : ℤ) → IsWithin most z → word.now ≡ printed_number z → result ≡ z }
+    ensures found { (decimals : ℕ) (z : ℤ) → IsWithin most z → word.now ≡ printed_fixed decimals z → result ≡ z }
 {
     match word {
         [b'-', digits @ ..] => -(magnitude(digits, most) as i128),
@@ -47,13 +46,17 @@ fn number_of(word: &[u8], most: u128) -> i128
     }
 }
 
+/// The units that the digits write, wherever the point is.
 fn magnitude(digits: &[u8], most: u128) -> u128
     requires { most ≤ 10 ^ 30 }
     ensures within { result ≤ most }
-    ensures found { (n : ℕ) → n ≤ most → digits.now ≡ decimal n → result ≡ n }
+    ensures found { (decimals n : ℕ) → n ≤ most → digits.now ≡ printed_units decimals n → result ≡ n }
 {
     let mut value: u128 = 0;
     for digit in digits {
+        if *digit == b'.' {
+            continue;
+        }
         if value > most || !digit.is_ascii_digit() {
             return 0;
         }

@@ -6,12 +6,12 @@ ghost use Rattle.theory.specs.Network.{«at»};
 ghost use Rattle.theory.specs.Grounded.{grounded, arc_name, node_name};
 ghost use Rattle.theory.specs.Circuit.{step};
 ghost use Rattle.theory.specs.Certificate.{Fits};
-ghost use Rattle.model_text.specs.Printed.{printed_line, printed_number};
+ghost use Rattle.model_text.specs.Printed.{printed_line, printed_fixed};
 ghost use Rattle.cert_text.specs.CertificateText.{certificate_text, texts_below, head_line, number_line, potential_line, flow_line, node_line, side_line, step_line, supply_lines, arc_lines};
 ghost use Rattle.cert_text.specs.Shown.{shown};
 
 use crate::certificate::Certificate;
-use model_text::{Model, append_number, append_word};
+use model_text::{Model, append_fixed, append_word};
 use outside_io::ByteText;
 use std::alloc::{AllocError, Global};
 use theory::Step;
@@ -19,25 +19,25 @@ use theory::Step;
 /// The one text of the certificate.
 pub fn print_cert(alloc: Global, m: &Model, c: &Certificate) -> Result<ByteText, AllocError>
     requires { Fits (grounded m.now.entries) (shown c.now) }
-    ensures { IfOk result (λ text. text ≡ certificate_text m.now.entries (shown c.now)) }
+    ensures { IfOk result (λ text. text ≡ certificate_text m.now.scale m.now.entries (shown c.now)) }
 {
     let mut out = Vec::new(alloc);
     match c {
         Certificate::Optimal { x, u, cost, value } => {
-            append_head(&mut out, b"optimal")?;
-            append_number_line(&mut out, b"cost", *cost)?;
-            append_number_line(&mut out, b"value", *value)?;
+            append_head(&mut out, m, b"optimal")?;
+            append_number_line(&mut out, b"cost", *cost, m.scale().cost())?;
+            append_number_line(&mut out, b"value", *value, m.scale().cost())?;
             append_potentials(&mut out, m, u.as_slice(), x.as_slice())?;
             append_arcs(&mut out, m, x.as_slice())?;
         }
         Certificate::Cut { side, capacity } => {
-            append_head(&mut out, b"cut")?;
-            append_number_line(&mut out, b"capacity", *capacity)?;
+            append_head(&mut out, m, b"cut")?;
+            append_number_line(&mut out, b"capacity", *capacity, m.scale().flow)?;
             append_side(&mut out, m, side.as_slice())?;
         }
         Certificate::Circuit { x, walk, span } => {
-            append_head(&mut out, b"circuit")?;
-            append_number_line(&mut out, b"span", *span)?;
+            append_head(&mut out, m, b"circuit")?;
+            append_number_line(&mut out, b"span", *span, m.scale().tension)?;
             append_supplies(&mut out, m, x.as_slice())?;
             append_arcs(&mut out, m, x.as_slice())?;
             append_walk(&mut out, m, walk.as_slice())?;
@@ -46,11 +46,11 @@ pub fn print_cert(alloc: Global, m: &Model, c: &Certificate) -> Result<ByteText,
     Ok(ByteText::of_vec(out))
 }
 
-fn append_head(out: &mut Vec<u8>, kind: &[u8]) -> Result<(), AllocError>
-    ensures { OnOk result (out.new.items ≡ out.old.items ++ head_line kind.now) }
+fn append_head(out: &mut Vec<u8>, m: &Model, kind: &[u8]) -> Result<(), AllocError>
+    ensures { OnOk result (out.new.items ≡ out.old.items ++ head_line m.now.scale kind.now) }
 {
     out.extend_from_slice(b"certificate")?;
-    append_word(out, b"1")?;
+    append_word(out, &[b'0' + m.scale().version])?;
     append_word(out, kind)?;
     out.push(b'\n')?;
     Ok(())
@@ -60,21 +60,29 @@ pub(crate) fn append_number_line(
     out: &mut Vec<u8>,
     keyword: &[u8],
     number: i128,
+    decimals: u8,
 ) -> Result<(), AllocError>
-    ensures { OnOk result (out.new.items ≡ out.old.items ++ number_line keyword.now number) }
+    requires { decimals ≤ 12 }
+    ensures { OnOk result (out.new.items ≡ out.old.items ++ number_line decimals keyword.now number) }
 {
     out.extend_from_slice(keyword)?;
-    append_number(out, number)?;
+    append_fixed(out, number, decimals)?;
     out.push(b'\n')?;
     Ok(())
 }
 
 /// A space and the number at a position.
-pub(crate) fn append_number_at(out: &mut Vec<u8>, numbers: &[i64], k: u32) -> Result<(), AllocError>
-    requires { k < length numbers.now }
-    ensures { OnOk result (out.new.items ≡ out.old.items ++ 32 ∷ printed_number («at» numbers.now k)) }
+pub(crate) fn append_number_at(
+    out: &mut Vec<u8>,
+    numbers: &[i64],
+    k: u32,
+    decimals: u8,
+) -> Result<(), AllocError>
+    requires there { k < length numbers.now }
+    requires few { decimals ≤ 12 }
+    ensures { OnOk result (out.new.items ≡ out.old.items ++ 32 ∷ printed_fixed decimals («at» numbers.now k)) }
 {
-    append_number(out, i128::from(numbers[k as usize]))
+    append_fixed(out, i128::from(numbers[k as usize]), decimals)
 }
 
 /// The potential and the supply of each model node.
@@ -82,7 +90,7 @@ fn append_potentials(out: &mut Vec<u8>, m: &Model, u: &[i64], x: &[i64]) -> Resu
     requires potentials { length u.now ≡ length m.now.entries.nodes + 1 }
     requires flows { length x.now ≡ length m.now.entries.nodes + length m.now.entries.arcs }
     ensures { OnOk result (out.new.items ≡ out.old.items
-        ++ texts_below (length m.now.entries.nodes) (potential_line m.now.entries u.now x.now)) }
+        ++ texts_below (length m.now.entries.nodes) (potential_line m.now.scale m.now.entries u.now x.now)) }
 {
     for i in 0..m.nodes() {
         append_potential(out, m, u, x, i)?;
@@ -100,12 +108,12 @@ fn append_potential(
     requires there { i < length m.now.entries.nodes }
     requires potentials { length u.now ≡ length m.now.entries.nodes + 1 }
     requires flows { length x.now ≡ length m.now.entries.nodes + length m.now.entries.arcs }
-    ensures { OnOk result (out.new.items ≡ out.old.items ++ potential_line m.now.entries u.now x.now i) }
+    ensures { OnOk result (out.new.items ≡ out.old.items ++ potential_line m.now.scale m.now.entries u.now x.now i) }
 {
     out.extend_from_slice(b"node")?;
     append_node_name(out, m, i + 1)?;
-    append_number_at(out, u, i + 1)?;
-    append_number_at(out, x, i)?;
+    append_number_at(out, u, i + 1, m.scale().tension)?;
+    append_number_at(out, x, i, m.scale().flow)?;
     out.push(b'\n')?;
     Ok(())
 }
@@ -113,7 +121,7 @@ fn append_potential(
 /// The flows of the ground arcs.
 pub(crate) fn append_supplies(out: &mut Vec<u8>, m: &Model, x: &[i64]) -> Result<(), AllocError>
     requires { length x.now ≡ length m.now.entries.nodes + length m.now.entries.arcs }
-    ensures { OnOk result (out.new.items ≡ out.old.items ++ supply_lines m.now.entries x.now) }
+    ensures { OnOk result (out.new.items ≡ out.old.items ++ supply_lines m.now.scale m.now.entries x.now) }
 {
     for i in 0..m.nodes() {
         append_flow(out, m, x, i)?;
@@ -124,7 +132,7 @@ pub(crate) fn append_supplies(out: &mut Vec<u8>, m: &Model, x: &[i64]) -> Result
 /// The flows of the model's arcs.
 pub(crate) fn append_arcs(out: &mut Vec<u8>, m: &Model, x: &[i64]) -> Result<(), AllocError>
     requires { length x.now ≡ length m.now.entries.nodes + length m.now.entries.arcs }
-    ensures { OnOk result (out.new.items ≡ out.old.items ++ arc_lines m.now.entries x.now) }
+    ensures { OnOk result (out.new.items ≡ out.old.items ++ arc_lines m.now.scale m.now.entries x.now) }
 {
     let nodes = m.nodes();
     for j in 0..m.arcs() {
@@ -136,10 +144,10 @@ pub(crate) fn append_arcs(out: &mut Vec<u8>, m: &Model, x: &[i64]) -> Result<(),
 fn append_flow(out: &mut Vec<u8>, m: &Model, x: &[i64], j: u32) -> Result<(), AllocError>
     requires there { j < length m.now.entries.nodes + length m.now.entries.arcs }
     requires one_each { length x.now ≡ length m.now.entries.nodes + length m.now.entries.arcs }
-    ensures { OnOk result (out.new.items ≡ out.old.items ++ flow_line m.now.entries x.now j) }
+    ensures { OnOk result (out.new.items ≡ out.old.items ++ flow_line m.now.scale m.now.entries x.now j) }
 {
     append_arc_name(out, m, j)?;
-    append_number_at(out, x, j)?;
+    append_number_at(out, x, j, m.scale().flow)?;
     out.push(b'\n')?;
     Ok(())
 }

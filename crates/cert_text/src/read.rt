@@ -35,8 +35,8 @@ impl From<AllocError> for CertFault {
 /// The certificate of the model that has this text. It takes the memory of a second text.
 pub fn read_cert(alloc: Global, m: &Model, text: &[u8]) -> Result<Certificate, CertFault>
     requires { length text.now ≤ 2 ^ 26 }
-    ensures read { IfOk result (λ c. IsTextOf m.now.entries text.now (shown c)) }
-    ensures refused { IfErr result (IsFaultOf m.now.entries text.now) }
+    ensures read { IfOk result (λ c. IsTextOf m.now.scale m.now.entries text.now (shown c)) }
+    ensures refused { IfErr result (IsFaultOf m.now.scale m.now.entries text.now) }
 {
     let certificate = candidate(alloc, m, text)?;
     let printed = print_cert(alloc, m, &certificate)?;

@@ -5,4 +5,4 @@ use Rattle.cert_text.proofs.feasible.append_tensions.Goals as goal
 
 pub loop-i-preserved : goal.loop-i-preserved
 loop-i-preserved c =
-    appended c.loop-i.i (tension_line c.args.m.now.entries c.args.u.now) _ _ _ _ c.loop-i.invariant c.in_ok-append_tension.ensures refl
+    appended c.loop-i.i (tension_line c.args.m.now.scale c.args.m.now.entries c.args.u.now) _ _ _ _ c.loop-i.invariant c.in_ok-append_tension.ensures refl

@@ -3,4 +3,4 @@ use Rattle.cert_text.specs.CertificateText.{texts_below, flow_line}
 use Rattle.cert_text.proofs.print.append_arcs.Given as goal
 
 abbrev pub invariant-loop-j : goal.invariant-loop-j
-invariant-loop-j l = (l.out.items ≡ l.initial.out.items ++ texts_below l.j (λ j. flow_line l.m.entries l.x (length l.m.entries.nodes + j)))
+invariant-loop-j l = (l.out.items ≡ l.initial.out.items ++ texts_below l.j (λ j. flow_line l.m.scale l.m.entries l.x (length l.m.entries.nodes + j)))

@@ -5,4 +5,4 @@ use Rattle.cert_text.proofs.print.append_potentials.Goals as goal
 
 pub loop-i-preserved : goal.loop-i-preserved
 loop-i-preserved c =
-    appended c.loop-i.i (potential_line c.args.m.now.entries c.args.u.now c.args.x.now) _ _ _ _ c.loop-i.invariant c.in_ok-append_potential.ensures refl
+    appended c.loop-i.i (potential_line c.args.m.now.scale c.args.m.now.entries c.args.u.now c.args.x.now) _ _ _ _ c.loop-i.invariant c.in_ok-append_potential.ensures refl

@@ -3,4 +3,4 @@ use Rattle.cert_text.specs.CertificateText.{texts_below, potential_line}
 use Rattle.cert_text.proofs.print.append_potentials.Given as goal
 
 abbrev pub invariant-loop-i : goal.invariant-loop-i
-invariant-loop-i l = (l.out.items ≡ l.initial.out.items ++ texts_below l.i (potential_line l.m.entries l.u l.x))
+invariant-loop-i l = (l.out.items ≡ l.initial.out.items ++ texts_below l.i (potential_line l.m.scale l.m.entries l.u l.x))
