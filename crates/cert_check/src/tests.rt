@@ -21,6 +21,10 @@ const TOO_LITTLE: &[u8] = b"network 1\nnode s 5\nnode t -5\narc a s t 3\n";
 const ROUND: &[u8] =
     b"network 1\nnode s\nnode t\narc a s t 0 -3 +inf\narc b t s 0 1 +inf\narc c s t 0 2 +inf\n";
 
+/// With one decimal of flows and two of tensions: 4 units at 2.25 and one at 5, and each at 2.50 before.
+const IN_DECIMALS: &[u8] =
+    b"network 2\ndecimals 1 2\nnode s -inf 2.5 +inf\nnode t -5\narc a s t 0 2.25 4 5 10\n";
+
 fn judged(alloc: Global, model: &[u8], certificate: &[u8]) -> Result<Option<Judged>, Fail> {
     if model.len() > 1000 || certificate.len() > 1000 {
         return Ok(None);
@@ -163,6 +167,25 @@ fn rows(rt: HostRuntime) -> Result<(), Fail> {
             ROUND,
             b"certificate 1 circuit\nspan -3\nnode s 0\nnode t 0\narc a 0\narc b 0\narc c 0\nstep + arc a\nstep - node t\nstep + node s\n",
             Judged::Endless(ArcId(1)),
+        ),
+        // Numbers are those of units: a cost counts thousandths.
+        (
+            IN_DECIMALS,
+            b"certificate 2 optimal\ncost 26.500\nvalue 26.500\nnode s 2.50 5.0\nnode t 7.50 -5.0\narc a 5.0\n",
+            Judged::Accepted,
+        ),
+        (
+            IN_DECIMALS,
+            b"certificate 2 optimal\ncost 26.500\nvalue 26.501\nnode s 2.50 5.0\nnode t 7.50 -5.0\narc a 5.0\n",
+            Judged::WrongNumber {
+                stated: 26_501,
+                right: 26_500,
+            },
+        ),
+        (
+            IN_DECIMALS,
+            b"certificate 2 optimal\ncost 26.500\nvalue 26.500\nnode s 2.50 5.0\nnode t 7.51 -5.0\narc a 5.0\n",
+            Judged::OffCurve(ArcId(2)),
         ),
     ] {
         assert_eq!(rt;

@@ -158,18 +158,36 @@ fn solves_as_drawn_and_by_passes(rt: HostRuntime) -> Result<(), Fail> {
     Ok(())
 }
 
+/// The certificate that is made of what is found, as it is printed.
+fn compare_printed(
+    rt: &(impl Abort + AllocGlobal),
+    text: &[u8],
+    wanted: &[u8],
+) -> Result<(), Fail> {
+    assert!(rt; text.len() < 1000);
+    let model = read_model(rt.alloc(), text)?;
+    let g = ground(rt.alloc(), &model)?;
+    let (kind, certificate) = solved_in_room::<Brand>(rt, &g, Blank::new(1))?;
+    assert_eq!(rt; kind, Kind::Optimal);
+    let printed = print_cert(rt.alloc(), &model, &certificate)?;
+    assert_eq!(rt; printed.as_slice(), wanted);
+    Ok(())
+}
+
 #[test]
 fn prints_what_is_found_in_room(rt: HostRuntime) -> Result<(), Fail> {
     // 5 units, 4 of them at a price of 2 and one at 5, and each at 2 before: no other pair is optimal.
-    let text = b"network 1\nnode s -inf 2 +inf\nnode t -5\narc a s t 0 2 4 5 10\n".as_slice();
-    let model = read_model(rt.alloc(), text)?;
-    let g = ground(rt.alloc(), &model)?;
-    let (kind, certificate) = solved_in_room::<Brand>(&rt, &g, Blank::new(1))?;
-    assert_eq!(rt; kind, Kind::Optimal);
-    let printed = print_cert(rt.alloc(), &model, &certificate)?;
-    let wanted = b"certificate 1 optimal\ncost 23\nvalue 23\nnode s 2 5\nnode t 7 -5\narc a 5\n";
-    assert_eq!(rt; printed.as_slice(), wanted.as_slice());
-    Ok(())
+    compare_printed(
+        &rt,
+        b"network 1\nnode s -inf 2 +inf\nnode t -5\narc a s t 0 2 4 5 10\n",
+        b"certificate 1 optimal\ncost 23\nvalue 23\nnode s 2 5\nnode t 7 -5\narc a 5\n",
+    )?;
+    // With decimals: 50 tenths of a unit, at 2.25 and 5, and each at 2.50 before.
+    compare_printed(
+        &rt,
+        b"network 2\ndecimals 1 2\nnode s -inf 2.5 +inf\nnode t -5\narc a s t 0 2.25 4 5 10\n",
+        b"certificate 2 optimal\ncost 26.500\nvalue 26.500\nnode s 2.50 5.0\nnode t 7.50 -5.0\narc a 5.0\n",
+    )
 }
 
 /// Room for two nodes and two arcs, with these flows and potentials, and the first node marked.
