@@ -4,6 +4,7 @@ ghost use Rattle.theory.specs.Limits.{IsWithin, number_most, list_most};
 ghost use Rattle.theory.specs.declared.ext.Ext.{Ext as Item};
 ghost use Rattle.model_text.specs.Model.{no_entries, node_fault, arc_fault, with_node, with_arc};
 ghost use Rattle.model_text.specs.Names.{IsName};
+ghost use Rattle.model_text.specs.Scale.{plain};
 ghost use Rattle.transport_front.specs.Table.{ArePairs, IsKind, compiled, place_node, priced, listed, supply_items};
 ghost use Rattle.transport_front.specs.Rows.{kind_of};
 
@@ -15,9 +16,10 @@ use std::alloc::{AllocError, Global};
 use theory::Ext;
 
 /// Its places are nodes and its lanes are arcs, in order and with their names. A plant supplies what it makes and a shop takes
-/// its demand away; the prices are slopes.
+/// its demand away; the prices are slopes. The model's text is of version 1.
 pub fn compile(alloc: Global, t: &Table) -> Result<Model, AllocError>
-    ensures { IfOk result (λ model. model.entries ≡ compiled t.now.table) }
+    ensures entries { IfOk result (λ model. model.entries ≡ compiled t.now.table) }
+    ensures scale { IfOk result (λ model. model.scale ≡ plain) }
 {
     let mut model = Model::new(alloc);
     add_nodes(alloc, &mut model, t)?;
@@ -27,7 +29,8 @@ pub fn compile(alloc: Global, t: &Table) -> Result<Model, AllocError>
 
 fn add_nodes(alloc: Global, model: &mut Model, t: &Table) -> Result<(), AllocError>
     requires { model.old.entries ≡ no_entries }
-    ensures { OnOk result (model.new.entries ≡ record { nodes = map place_node t.now.table.places; arcs = [] }) }
+    ensures nodes { OnOk result (model.new.entries ≡ record { nodes = map place_node t.now.table.places; arcs = [] }) }
+    ensures scale { model.new.scale ≡ model.old.scale }
 {
     for i in 0..t.places() {
         let name = name_of(alloc, t.place_name(i))?;
@@ -39,7 +42,8 @@ fn add_nodes(alloc: Global, model: &mut Model, t: &Table) -> Result<(), AllocErr
 
 fn add_arcs(alloc: Global, model: &mut Model, t: &Table) -> Result<(), AllocError>
     requires { model.old.entries ≡ record { nodes = map place_node t.now.table.places; arcs = [] } }
-    ensures { OnOk result (model.new.entries ≡ compiled t.now.table) }
+    ensures arcs { OnOk result (model.new.entries ≡ compiled t.now.table) }
+    ensures scale { model.new.scale ≡ model.old.scale }
 {
     for j in 0..t.lanes() {
         let name = name_of(alloc, t.lane_name(j))?;
@@ -55,7 +59,8 @@ fn add_node(model: &mut Model, name: Name, supply: Curve) -> Result<(), AllocErr
     requires free { node_fault model.old.entries name.bytes ≡ None }
     requires short { length supply.listing.items ≤ list_most }
     requires base { supply.listing.base ≡ pos 0 }
-    ensures { OnOk result (model.new.entries ≡ with_node model.old.entries name.bytes supply.listing) }
+    ensures added { OnOk result (model.new.entries ≡ with_node model.old.entries name.bytes supply.listing) }
+    ensures scale { model.new.scale ≡ model.old.scale }
 {
     match model.add_node(name, supply) {
         Ok(_) => Ok(()),
@@ -71,7 +76,8 @@ fn add_arc(model: &mut Model, name: Name, ends: (u32, u32), curve: Curve) -> Res
     requires head { ends.1 < length model.old.entries.nodes }
     requires short { length curve.listing.items ≤ list_most }
     requires base { curve.listing.base ≡ pos 0 }
-    ensures { OnOk result (model.new.entries ≡ with_arc model.old.entries name.bytes ends.0 ends.1 curve.listing) }
+    ensures added { OnOk result (model.new.entries ≡ with_arc model.old.entries name.bytes ends.0 ends.1 curve.listing) }
+    ensures scale { model.new.scale ≡ model.old.scale }
 {
     match model.add_arc(name, ends.0, ends.1, curve) {
         Ok(_) => Ok(()),

@@ -42,7 +42,7 @@ fn numbers_of(alloc: Global, words: &[&[u8]]) -> Result<Vec<i64>, Refusal>
         return Err(Refusal::NoMemory);
     };
     for word in words {
-        let Some(number) = number(word) else {
+        let Some(number) = number(word, 0) else {
             return Err(Refusal::Fault(TableWord::Number));
         };
         listed.push_reserved(number);
@@ -84,7 +84,7 @@ pub(crate) fn demand_of(words: &[&[u8]]) -> Result<u32, Refusal>
     let [word] = words else {
         return Err(Refusal::Fault(TableWord::Number));
     };
-    let Some(demand) = number(word) else {
+    let Some(demand) = number(word, 0) else {
         return Err(Refusal::Fault(TableWord::Number));
     };
     if is_over(demand) || demand < 0 {

@@ -51,6 +51,7 @@ fn texts(rt: HostRuntime) -> Result<(), Fail> {
         (b"transport 1\nplant p\n", Err((2, Number))),
         (b"transport 1\nplant p 1 2 3\n", Err((2, Number))),
         (b"transport 1\nplant p 1 inf\n", Err((2, Number))),
+        (b"transport 1\nplant p 1.5 2\n", Err((2, Number))),
         (b"transport 1\nshop a\n", Err((2, Number))),
         (b"transport 1\nshop a 1 2\n", Err((2, Number))),
         (b"transport 1\nplant p 0 2\n", Err((2, Limit))),

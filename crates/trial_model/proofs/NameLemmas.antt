@@ -9,7 +9,7 @@ use Rattle.std.proofs.lemmas.Bool.Decides.{nat_tests}
 use Rattle.std.proofs.lemmas.Fmt.{decimal_injective, length-decimal-le}
 use Rattle.theory.specs.Limits.{name_most}
 use Rattle.model_text.specs.Names.{is_name, is_name_byte}
-use Rattle.model_text.proofs.PrintedWords.{decimal-is}
+use Rattle.model_text.proofs.FixedNumbers.{decimal-is}
 use Rattle.model_text.proofs.SoundLines.{both}
 use Rattle.trial_model.specs.Trial.{numbered}
 

@@ -19,8 +19,9 @@ pub(crate) fn add_chords(
 ) -> Result<(), AllocError>
     requires nodes { length model.old.entries.nodes ≡ 200 }
     requires arcs { (state : ℕ) × (model.old.entries.arcs ≡ ring state) }
-    ensures { OnOk result (model.new.entries
+    ensures arcs { OnOk result (model.new.entries
         ≡ record model.old.entries { arcs = model.old.entries.arcs ++ chords draws.old.state }) }
+    ensures scale { model.new.scale ≡ model.old.scale }
 {
     for position in 0..CHORDS {
         let (ends, items) = draw_chord(draws);

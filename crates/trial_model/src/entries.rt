@@ -46,8 +46,9 @@ pub(crate) fn add_node(
     requires position { position < 1000 }
     requires supply { IsWithin number_most supply }
     requires free { node_fault model.old.entries (numbered 110 position) ≡ None }
-    ensures { OnOk result (model.new.entries
+    ensures added { OnOk result (model.new.entries
         ≡ with_node model.old.entries (numbered 110 position) (listed (Item.At supply ∷ []))) }
+    ensures scale { model.new.scale ≡ model.old.scale }
 {
     let name = name_at(alloc, b'n', position)?;
     let curve = curve_of(alloc, &[Ext::At(supply)])?;
@@ -81,8 +82,9 @@ pub(crate) fn add_arc(
     requires curve { IsValidCurve (listed items.now) }
     requires short { length items.now ≤ list_most }
     requires free { arc_fault model.old.entries (numbered letter position) ends.from ends.to ≡ None }
-    ensures { OnOk result (model.new.entries ≡ with_arc model.old.entries
+    ensures added { OnOk result (model.new.entries ≡ with_arc model.old.entries
         (numbered letter position) ends.from ends.to (listed items.now)) }
+    ensures scale { model.new.scale ≡ model.old.scale }
 {
     let name = name_at(alloc, letter, position)?;
     let curve = curve_of(alloc, items)?;

@@ -21,6 +21,7 @@ pub(crate) fn add_nodes(
 ) -> Result<(), AllocError>
     requires { model.old.entries ≡ no_entries }
     ensures nodes { OnOk result (model.new.entries ≡ record { nodes = nodes draws.old.state; arcs = [] }) }
+    ensures scale { model.new.scale ≡ model.old.scale }
     ensures state { OnOk result (draws.new.state ≡ state_after draws.old.state 199) }
 {
     let sum = add_drawn_nodes(alloc, model, draws)?;
@@ -34,6 +35,7 @@ fn add_drawn_nodes(alloc: Global, model: &mut Model, draws: &mut Draws) -> Resul
         ≡ record { nodes = values_below 199 (drawn_node draws.old.state); arcs = [] }) }
     ensures sum { IfOk result (λ sum.
         sum ≡ sum_over (λ supply. supply) (values_below 199 (drawn_supply draws.old.state))) }
+    ensures scale { model.new.scale ≡ model.old.scale }
     ensures near { IfOk result (λ sum. IsWithin 1990 sum) }
     ensures state { OnOk result (draws.new.state ≡ state_after draws.old.state 199) }
 {

@@ -18,6 +18,7 @@ pub(crate) fn add_ring(
     requires nodes { length model.old.entries.nodes ≡ 200 }
     requires arcs { model.old.entries.arcs ≡ [] }
     ensures arcs { OnOk result (model.new.entries ≡ record model.old.entries { arcs = ring draws.old.state }) }
+    ensures scale { model.new.scale ≡ model.old.scale }
     ensures state { OnOk result (draws.new.state ≡ state_after draws.old.state 200) }
 {
     for position in 0..NODES {

@@ -11,7 +11,7 @@ name_of-requires c = subst IsName (sym c.lane_name.ensures) (lane_named c.args.t
 pub add_arc-requires-clause-free : goal.add_arc-requires-clause-free
 add_arc-requires-clause-free c =
     let t = c.args.t.now.table in
-    rw (c.loop-j.invariant, c.in_ok-name.ensures, c.lane_name.ensures, c.lane-lane.ensures.from, c.lane-lane.ensures.to) (lane_free t c.args.t.now.kept c.loop-j.j (omega arith))
+    rw (c.loop-j.invariant.so_far, c.in_ok-name.ensures, c.lane_name.ensures, c.lane-lane.ensures.from, c.lane-lane.ensures.to) (lane_free t c.args.t.now.kept c.loop-j.j (omega arith))
 
 pub add_arc-requires-clause-short : goal.add_arc-requires-clause-short
 add_arc-requires-clause-short c =
@@ -22,6 +22,10 @@ add_arc-requires-clause-short c =
 pub loop-j-preserved : goal.loop-j-preserved
 loop-j-preserved c =
     let t = c.args.t.now.table in
-    c.in_ok-add_arc.ensures
-    ∙ rw (c.loop-j.invariant, c.in_ok-name.ensures, c.lane_name.ensures, c.lane-lane.ensures.from, c.lane-lane.ensures.to, c.in_ok-curve.ensures, c.deref.ensures.value, c.lane-lane.ensures.pairs)
-    (arcs_more t c.loop-j.j (omega arith))
+    record {
+      so_far =
+          c.in_ok-add_arc.ensures.added
+          ∙ rw (c.loop-j.invariant.so_far, c.in_ok-name.ensures, c.lane_name.ensures, c.lane-lane.ensures.from, c.lane-lane.ensures.to, c.in_ok-curve.ensures, c.deref.ensures.value, c.lane-lane.ensures.pairs)
+          (arcs_more t c.loop-j.j (omega arith));
+      scale = c.add_arc.ensures.scale ∙ c.loop-j.invariant.scale;
+    }

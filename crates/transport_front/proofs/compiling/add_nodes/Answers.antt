@@ -10,7 +10,7 @@ name_of-requires c = subst IsName (sym c.place_name.ensures) (place_named c.args
 pub add_node-requires-clause-free : goal.add_node-requires-clause-free
 add_node-requires-clause-free c =
     let t = c.args.t.now.table in
-    rw (c.loop-i.invariant, c.in_ok-name.ensures, c.place_name.ensures) (place_free t c.args.t.now.kept c.loop-i.i (omega arith))
+    rw (c.loop-i.invariant.so_far, c.in_ok-name.ensures, c.place_name.ensures) (place_free t c.args.t.now.kept c.loop-i.i (omega arith))
 
 pub add_node-requires-clause-short : goal.add_node-requires-clause-short
 add_node-requires-clause-short c =
@@ -20,5 +20,9 @@ add_node-requires-clause-short c =
 pub loop-i-preserved : goal.loop-i-preserved
 loop-i-preserved c =
     let t = c.args.t.now.table in
-    c.in_ok-add_node.ensures
-    ∙ rw (c.loop-i.invariant, c.in_ok-name.ensures, c.place_name.ensures, c.in_ok-supply.ensures, c.kind.ensures) (nodes_more t c.loop-i.i (omega arith))
+    record {
+      so_far =
+          c.in_ok-add_node.ensures.added
+          ∙ rw (c.loop-i.invariant.so_far, c.in_ok-name.ensures, c.place_name.ensures, c.in_ok-supply.ensures, c.kind.ensures) (nodes_more t c.loop-i.i (omega arith));
+      scale = c.add_node.ensures.scale ∙ c.loop-i.invariant.scale;
+    }
