@@ -12,6 +12,7 @@ use Rattle.theory.specs.Grounded.{Entries}
 use Rattle.model_text.specs.declared.fault.FaultWord.{FaultWord}
 use Rattle.model_text.specs.declared.fault.FaultWord.TheVariants.{Utf8, Header, Keyword, Number, Limit, Shape, Order}
 use Rattle.model_text.specs.declared.fault.PartFault.{PartFault}
+use Rattle.model_text.specs.declared.scale.Scale.{Scale}
 use Rattle.model_text.specs.declared.fault.PartFault.TheVariants.{Word, NoMemory}
 use Rattle.model_text.specs.Lines.{line_words, text_lines}
 use Rattle.model_text.specs.LineParts.{texts, Passes}
@@ -41,75 +42,75 @@ no_header words other =
 
 -- ---- a line, as far as it is tested
 
-module _ (m : Entries) (begun : Bool) (count : ℕ) (line : List ℕ) where
-  pub not_text : is_utf8 line ≡ false → first_fault (line_tests m begun count line) ≡ Some Utf8
+module _ (s : Scale) (m : Entries) (begun : Bool) (count : ℕ) (line : List ℕ) where
+  pub not_text : is_utf8 line ≡ false → first_fault (line_tests s m begun count line) ≡ Some Utf8
   unfolding line_tests
   not_text text = rw text refl
 
-  pub blank : is_utf8 line ≡ true → has_words line ≡ false → first_fault (line_tests m begun count line) ≡ None
+  pub blank : is_utf8 line ≡ true → has_words line ≡ false → first_fault (line_tests s m begun count line) ≡ None
   unfolding line_tests
   blank text words = rw (text, words) refl
 
   pub begins : is_utf8 line ≡ true → has_words line ≡ true → begun ≡ false
-      → first_fault (line_tests m begun count line) ≡ (if not (is_header (line_words line)) then Some Header else None)
+      → first_fault (line_tests s m begun count line) ≡ (if not (is_header (line_words line)) then Some Header else None)
   unfolding line_tests
   begins text words first = rw (text, words, first) refl
 
   pub goes_on : is_utf8 line ≡ true → has_words line ≡ true → begun ≡ true
-      → first_fault (line_tests m begun count line) ≡ first_fault (entry_tests m count (line_words line))
+      → first_fault (line_tests s m begun count line) ≡ first_fault (entry_tests s m count (line_words line))
   unfolding line_tests
   goes_on text words later = rw (text, words, later) refl
 
-module _ (m : Entries) (count : ℕ) (words : List (List ℕ)) where
-  pub of_node : is_node_line words ≡ true → first_fault (entry_tests m count words) ≡ first_fault (named_tests m true count words)
+module _ (s : Scale) (m : Entries) (count : ℕ) (words : List (List ℕ)) where
+  pub of_node : is_node_line words ≡ true → first_fault (entry_tests s m count words) ≡ first_fault (named_tests s m true count words)
   unfolding entry_tests
   of_node node = rw node refl
 
-  pub of_arc : is_node_line words ≡ false → is_arc_line words ≡ true → first_fault (entry_tests m count words) ≡ first_fault (named_tests m false count words)
+  pub of_arc : is_node_line words ≡ false → is_arc_line words ≡ true → first_fault (entry_tests s m count words) ≡ first_fault (named_tests s m false count words)
   unfolding entry_tests
   of_arc node arc = rw (node, arc) refl
 
-  pub of_none : is_node_line words ≡ false → is_arc_line words ≡ false → first_fault (entry_tests m count words) ≡ Some Keyword
+  pub of_none : is_node_line words ≡ false → is_arc_line words ≡ false → first_fault (entry_tests s m count words) ≡ Some Keyword
   unfolding entry_tests
   of_none node arc = rw (node, arc) refl
 
 -- ---- what a line adds
 
-module _ (m : Entries) (line : ℕ) (words : List (List ℕ)) where
-  pub node_changes : is_node_line words ≡ true → changes_in m line words ≡ change_of m true line words ∷ []
+module _ (s : Scale) (m : Entries) (line : ℕ) (words : List (List ℕ)) where
+  pub node_changes : is_node_line words ≡ true → changes_in s m line words ≡ change_of s m true line words ∷ []
   unfolding changes_in
   node_changes node = rw node refl
 
-  pub arc_changes : is_node_line words ≡ false → is_arc_line words ≡ true → changes_in m line words ≡ change_of m false line words ∷ []
+  pub arc_changes : is_node_line words ≡ false → is_arc_line words ≡ true → changes_in s m line words ≡ change_of s m false line words ∷ []
   unfolding changes_in
   arc_changes node arc = rw (node, arc) refl
 
-  pub changes_nothing : is_node_line words ≡ false → is_arc_line words ≡ false → changes_in m line words ≡ []
+  pub changes_nothing : is_node_line words ≡ false → is_arc_line words ≡ false → changes_in s m line words ≡ []
   unfolding changes_in
   changes_nothing node arc = rw (node, arc) refl
 
-pub blank_adds : (m : Entries) (line : ℕ) (words : List (List ℕ)) → length words ≡ 0 → changes_in m line words ≡ []
+pub blank_adds : (s : Scale) (m : Entries) (line : ℕ) (words : List (List ℕ)) → length words ≡ 0 → changes_in s m line words ≡ []
 unfolding is_node_line is_arc_line
-blank_adds m line [] none = changes_nothing m line [] refl refl
-blank_adds m line (word ∷ words) none = absurd (omega arith)
+blank_adds s m line [] none = changes_nothing s m line [] refl refl
+blank_adds s m line (word ∷ words) none = absurd (omega arith)
 
 and-front : (a b c : Bool) → (a && b && c) ≡ true → b ≡ true
 and-front true true c all = refl
 and-front true false c all = cc
 and-front false b c all = cc
 
-pub header_adds : (m : Entries) (line : ℕ) (words : List (List ℕ)) → is_header words ≡ true → changes_in m line words ≡ []
+pub header_adds : (s : Scale) (m : Entries) (line : ℕ) (words : List (List ℕ)) → is_header words ≡ true → changes_in s m line words ≡ []
 unfolding is_header is_node_line is_arc_line
-header_adds m line words header =
+header_adds s m line words header =
     let keyword = (bytes_eq-Decides (word_at words 0) (codes "changes")).0 (and-front (length words == 2) _ _ header) in
-    changes_nothing m line words (rw keyword refl) (rw keyword refl)
+    changes_nothing s m line words (rw keyword refl) (rw keyword refl)
 
 -- a refused line is the first bad line, where those before it are not
-pub right_error : (m : Entries) (text : List ℕ) (k : ℕ) (refusal : PartFault) (tests : List (Bool × FaultWord)) → k < length (text_lines text)
-    → NoFaultBefore m (text_lines text) k → fault_at m (text_lines text) k ≡ first_fault tests → Passes {A = Unit {0}} tests (Err refusal)
-    → IsRightError m text (error_at (k + 1) refusal)
-right_error m text k (Word word) tests within before fault told = bad_line within before (fault ∙ told)
-right_error m text k NoMemory tests within before fault told = tt
+pub right_error : (s : Scale) (m : Entries) (text : List ℕ) (k : ℕ) (refusal : PartFault) (tests : List (Bool × FaultWord)) → k < length (text_lines text)
+    → NoFaultBefore s m (text_lines text) k → fault_at s m (text_lines text) k ≡ first_fault tests → Passes {A = Unit {0}} tests (Err refusal)
+    → IsRightError s m text (error_at (k + 1) refusal)
+right_error s m text k (Word word) tests within before fault told = bad_line within before (fault ∙ told)
+right_error s m text k NoMemory tests within before fault told = tt
 
 -- ---- the line at a place, and what the lines make with it
 
@@ -119,19 +120,19 @@ enumerate_more n (first ∷ lines) line =
     let same : n + 1 + length lines ≡ n + length (first ∷ lines) = omega arith in
     ap (λ rest. (n, first) ∷ rest) (enumerate_more (n + 1) lines line ∙ ap (λ k. enumerate_from (n + 1) lines ++ (k, line) ∷ []) same)
 
-module _ (m : Entries) (lines : List (List ℕ)) (k : ℕ) (line : List ℕ) (others : List (List ℕ)) (left : drop k lines ≡ line ∷ others) where
-  pub changes-after : changes_of m (take (k + 1) lines) ≡ changes_of m (take k lines) ++ changes_in m (k + 1) (line_words line)
+module _ (s : Scale) (m : Entries) (lines : List (List ℕ)) (k : ℕ) (line : List ℕ) (others : List (List ℕ)) (left : drop k lines ≡ line ∷ others) where
+  pub changes-after : changes_of s m (take (k + 1) lines) ≡ changes_of s m (take k lines) ++ changes_in s m (k + 1) (line_words line)
   unfolding changes_of
   changes-after =
       let within = here lines k line others left in
       let number : 1 + length (take k lines) ≡ k + 1 = omega (arith, length-take k lines) in
-      ap (λ some. changes_of m some) (front-after lines k line others left)
-      ∙ ap (flat_map (λ numbered. changes_in m numbered.0 (line_words numbered.1))) (enumerate_more 1 (take k lines) line)
-      ∙ flat_map-append (λ numbered. changes_in m numbered.0 (line_words numbered.1)) (enumerate_from 1 (take k lines)) ((1 + length (take k lines), line) ∷ [])
-      ∙ ap (λ rest. flat_map (λ numbered. changes_in m numbered.0 (line_words numbered.1)) (enumerate_from 1 (take k lines)) ++ rest)
-      (append-nil (changes_in m (1 + length (take k lines)) (line_words line)) ∙ ap (λ n. changes_in m n (line_words line)) number)
+      ap (λ some. changes_of s m some) (front-after lines k line others left)
+      ∙ ap (flat_map (λ numbered. changes_in s m numbered.0 (line_words numbered.1))) (enumerate_more 1 (take k lines) line)
+      ∙ flat_map-append (λ numbered. changes_in s m numbered.0 (line_words numbered.1)) (enumerate_from 1 (take k lines)) ((1 + length (take k lines), line) ∷ [])
+      ∙ ap (λ rest. flat_map (λ numbered. changes_in s m numbered.0 (line_words numbered.1)) (enumerate_from 1 (take k lines)) ++ rest)
+      (append-nil (changes_in s m (1 + length (take k lines)) (line_words line)) ∙ ap (λ n. changes_in s m n (line_words line)) number)
 
-  pub fault-here : fault_at m lines k ≡ first_fault (line_tests m (list_any has_words (take k lines)) (length (changes_of m (take k lines))) line)
+  pub fault-here : fault_at s m lines k ≡ first_fault (line_tests s m (list_any has_words (take k lines)) (length (changes_of s m (take k lines))) line)
   unfolding fault_at
   fault-here = rw (line-is lines k line others left) refl
 
@@ -152,6 +153,24 @@ pub no_part : (words : List (Bor (List ℕ))) → length words < 2 → part_of (
 no_part [] short = refl
 no_part (a ∷ []) short = refl
 no_part (a ∷ b ∷ words) short = absurd (omega arith)
+
+-- ---- a refusal stands where the tests before it pass, whatever comes behind it
+
+refused-first : (tests others : List (Bool × FaultWord)) (word : FaultWord) → first_fault tests ≡ Some word → first_fault (tests ++ others) ≡ Some word
+refused-first [] others word is = cc
+refused-first ((true, first) ∷ tests) others word is = is
+refused-first ((false, first) ∷ tests) others word is = refused-first tests others word is
+
+behind : (A B : Type 0) (lacks : Bool) (before : FaultWord) (tests others : List (Bool × FaultWord)) (refusal : PartFault) → lacks ≡ false
+    → Passes {A = A} tests (Err refusal) → Passes {A = B} ((lacks, before) ∷ tests ++ others) (Err refusal)
+behind A B lacks before tests others (Word word) none refused = rw none (refused-first tests others word refused)
+behind A B lacks before tests others NoMemory none refused = tt
+
+pub refused-behind : {A B : Type 0} (lacks : Bool) (before : FaultWord) (tests others : List (Bool × FaultWord)) (refusal : PartFault)
+    (read : Result A PartFault) (answer : Result B PartFault) → read ≡ Err refusal → answer ≡ Err refusal → lacks ≡ false → Passes tests read
+    → Passes ((lacks, before) ∷ tests ++ others) answer
+refused-behind {A} {B} lacks before tests others refusal read answer is told none refused =
+    rw told (behind A B lacks before tests others refusal none (rw is at refused))
 
 -- ---- the tests of a curve, where there may be no room
 
@@ -176,21 +195,21 @@ lacking false false true fall others is = cc
 lacking false false false true others is = cc
 lacking false false false false others is = cc
 
-module _ (node : Bool) (part : List (List ℕ)) where
+module _ (s : Scale) (node : Bool) (part : List (List ℕ)) where
   -- without room the limit is the first fault of words that are numbers
-  pub no_room : {A : Type 0} (read : Result A PartFault) → Passes (part_tests node part) read → has_numbers read ≡ true
-      → first_fault (curve_tests node true part) ≡ Some Limit
-  no_room (Ok curve) passed numbers = limited (part_lacks_numbers part) (part_is_beyond part) None (passes (part_lacks_numbers part) _ _ passed).0
+  pub no_room : {A : Type 0} (read : Result A PartFault) → Passes (part_tests s node part) read → has_numbers read ≡ true
+      → first_fault (curve_tests s node true part) ≡ Some Limit
+  no_room (Ok curve) passed numbers = limited (part_lacks_numbers s part) (part_is_beyond s part) None (passes (part_lacks_numbers s part) _ _ passed).0
   no_room (Err NoMemory) passed numbers = cc
   no_room (Err (Word word)) passed numbers =
-      limited (part_lacks_numbers part) (part_is_beyond part) None (number_first (part_lacks_numbers part) _ word numbers passed)
+      limited (part_lacks_numbers s part) (part_is_beyond s part) None (number_first (part_lacks_numbers s part) _ word numbers passed)
 
   -- a word that is no number comes first, and with room nothing else is tested
-  pub as_read : {A : Type 0} (full : Bool) (read : Result A PartFault) → (full && has_numbers read) ≡ false → Passes (part_tests node part) read
-      → Passes (curve_tests node full part) read
-  as_read false read none passed = passes-same (curve_tests node false part) (part_tests node part) refl read passed
+  pub as_read : {A : Type 0} (full : Bool) (read : Result A PartFault) → (full && has_numbers read) ≡ false → Passes (part_tests s node part) read
+      → Passes (curve_tests s node full part) read
+  as_read false read none passed = passes-same (curve_tests s node false part) (part_tests s node part) refl read passed
   as_read true (Ok curve) none passed = cc
   as_read true (Err NoMemory) none passed = tt
   as_read true (Err (Word Number)) none passed =
-      lacking (part_lacks_numbers part) (part_is_beyond part) (are_misshapen node (part_items part)) (has_fall (part_items part)) _ passed
+      lacking (part_lacks_numbers s part) (part_is_beyond s part) (are_misshapen node (part_items s part)) (has_fall (part_items s part)) _ passed
   as_read true (Err (Word word)) none passed = cc

@@ -3,11 +3,12 @@ ghost use Rattle.std.specs.Prelude.{◌≡◌, ◌≤◌, ◌<◌, ◌+◌, ◌+
 ghost use Rattle.theory.specs.Limits.{list_most, number_most, IsWithin};
 ghost use Rattle.model_text.specs.LineParts.{texts, Passes};
 ghost use Rattle.model_text.specs.ModelText.{word_at, part_listing};
+ghost use Rattle.model_text.specs.Scale.{IsScale};
 ghost use Rattle.warm_solve.specs.ChangesText.{entry_tests, named_tests, curve_tests, changes_in, change_of, part_of, arc_of};
 ghost use Rattle.warm_solve.specs.ChangesReading.{has_numbers};
 
 use crate::changes::{Change, Changes};
-use model_text::{FaultWord, Model, PartFault, are_same, curve_of_words, is_name};
+use model_text::{FaultWord, Model, PartFault, Scale, are_same, curve_of_words, is_name};
 use mono_curve::Curve;
 use net_incidence::ArcId;
 use std::alloc::Global;
@@ -20,8 +21,8 @@ pub(crate) fn read_change(
     words: &[&[u8]],
     line: u32,
 ) -> Result<(), PartFault>
-    ensures tests { Passes (entry_tests m.now.entries (length changes.old) (texts words.now)) result }
-    ensures added { OnOk result (changes.new ≡ changes.old ++ changes_in m.now.entries line (texts words.now)) }
+    ensures tests { Passes (entry_tests m.now.scale m.now.entries (length changes.old) (texts words.now)) result }
+    ensures added { OnOk result (changes.new ≡ changes.old ++ changes_in m.now.scale m.now.entries line (texts words.now)) }
 {
     let keyword = word(words, 0);
     if are_same(keyword, b"node") {
@@ -42,15 +43,15 @@ fn read_named(
     line: u32,
     node: bool,
 ) -> Result<(), PartFault>
-    ensures tests { Passes (named_tests m.now.entries node (length changes.old) (texts words.now)) result }
+    ensures tests { Passes (named_tests m.now.scale m.now.entries node (length changes.old) (texts words.now)) result }
     ensures added { OnOk result (changes.new
-        ≡ changes.old ++ change_of m.now.entries node line (texts words.now) ∷ []) }
+        ≡ changes.old ++ change_of m.now.scale m.now.entries node line (texts words.now) ∷ []) }
 {
     let name = word(words, 1);
     if !is_name(name) {
         return Err(PartFault::Word(FaultWord::Name));
     }
-    let curve = curve_of(alloc, part_of(words), node, changes.is_full())?;
+    let curve = curve_of(alloc, part_of(words), m.scale(), node, changes.is_full())?;
     let Some(arc) = arc_of(m, node, name) else {
         return Err(PartFault::Word(FaultWord::Unknown));
     };
@@ -60,11 +61,18 @@ fn read_named(
 }
 
 /// The curve that the part lists, where there is room for one more.
-fn curve_of(alloc: Global, part: &[&[u8]], node: bool, full: bool) -> Result<Curve, PartFault>
-    ensures tests { Passes (curve_tests node full (texts part.now)) result }
-    ensures curve { IfOk result (λ curve. curve.listing ≡ part_listing (texts part.now)) }
+fn curve_of(
+    alloc: Global,
+    part: &[&[u8]],
+    scale: Scale,
+    node: bool,
+    full: bool,
+) -> Result<Curve, PartFault>
+    requires { IsScale scale }
+    ensures tests { Passes (curve_tests scale node full (texts part.now)) result }
+    ensures curve { IfOk result (λ curve. curve.listing ≡ part_listing scale (texts part.now)) }
 {
-    let curve = curve_of_words(alloc, part, node);
+    let curve = curve_of_words(alloc, part, scale, node);
     if full && has_numbers(&curve) {
         return Err(PartFault::Word(FaultWord::Limit));
     }

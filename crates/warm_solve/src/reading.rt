@@ -24,11 +24,11 @@ pub enum ChangesError {
     NoMemory,
 }
 
-/// The changes of the model that the text spells. It is read once from the front.
+/// The changes of the model that the text spells, with numbers at the model's scale. It is read once from the front.
 pub fn read_changes(alloc: Global, m: &Model, text: &[u8]) -> Result<Changes, ChangesError>
     requires { length text.now ≤ 2 ^ 26 }
-    ensures changes { IfOk result (λ changes. Spells m.now.entries text.now changes) }
-    ensures error { IfErr result (IsRightError m.now.entries text.now) }
+    ensures changes { IfOk result (λ changes. Spells m.now.scale m.now.entries text.now changes) }
+    ensures error { IfErr result (IsRightError m.now.scale m.now.entries text.now) }
 {
     let mut reader = Reader {
         changes: Changes::new(alloc),
@@ -80,10 +80,10 @@ impl Reader {
         line: &[u8],
         number: u32,
     ) -> Result<(), PartFault>
-        ensures tests { Passes (line_tests m.now.entries self.old.begun (length self.old.changes) line.now) result }
+        ensures tests { Passes (line_tests m.now.scale m.now.entries self.old.begun (length self.old.changes) line.now) result }
         ensures begun { OnOk result (self.new.begun ≡ (self.old.begun || has_words line.now)) }
         ensures changes { OnOk result (self.new.changes
-            ≡ self.old.changes ++ changes_in m.now.entries number (line_words line.now)) }
+            ≡ self.old.changes ++ changes_in m.now.scale m.now.entries number (line_words line.now)) }
     {
         if !is_text(line) {
             return Err(PartFault::Word(FaultWord::Utf8));

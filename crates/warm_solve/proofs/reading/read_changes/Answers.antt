@@ -22,6 +22,7 @@ loop-rest-init c = record {
 
 pub loop-rest-preserved : goal.loop-rest-preserved
 loop-rest-preserved c =
+    let s = c.args.m.now.scale in
     let m = c.args.m.now.entries in
     let text = c.args.text.now in
     let k = c.loop-rest.count in
@@ -30,8 +31,8 @@ loop-rest-preserved c =
     let cuts : before_first (λ b. b == 10) c.loop-rest.rest.now ∷ text_lines (after_first (λ b. b == 10) c.loop-rest.rest.now) ≡ line ∷ text_lines c.cut.result.1.now =
     rw (c.cut.ensures.before, c.cut.ensures.after) refl in
     let left = c.loop-rest.invariant.lines_left ∙ first-line c.loop-rest.rest.now some ∙ cuts in
-    let fault : fault_at m (text_lines text) k ≡ first_fault (line_tests m c.loop-rest.reader.begun (length c.loop-rest.reader.changes) line) =
-    fault-here m (text_lines text) k line (text_lines c.cut.result.1.now) left
+    let fault : fault_at s m (text_lines text) k ≡ first_fault (line_tests s m c.loop-rest.reader.begun (length c.loop-rest.reader.changes) line) =
+    fault-here s m (text_lines text) k line (text_lines c.cut.result.1.now) left
     ∙ rw (c.loop-rest.invariant.begun, c.loop-rest.invariant.changes) refl in
     let others = text_lines c.cut.result.1.now in
     record {
@@ -39,14 +40,15 @@ loop-rest-preserved c =
       within = omega (arith, here (text_lines text) k line others left);
       lines_left = left-after (text_lines text) k line others left;
       changes =
-          c.in-Ok.ensures.changes ∙ ap (λ changes. changes ++ changes_in m (k + 1) (line_words line)) c.loop-rest.invariant.changes
-          ∙ sym (changes-after m (text_lines text) k line others left);
+          c.in-Ok.ensures.changes ∙ ap (λ changes. changes ++ changes_in s m (k + 1) (line_words line)) c.loop-rest.invariant.changes
+          ∙ sym (changes-after s m (text_lines text) k line others left);
       begun = c.in-Ok.ensures.begun ∙ ap (λ b. b || has_words line) c.loop-rest.invariant.begun ∙ sym (words-after (text_lines text) k line others left);
       no_fault = below_more _ _ c.loop-rest.invariant.no_fault (fault ∙ c.in-Ok.ensures.tests);
     }
 
 pub returns-in-Err-clause-error : goal.returns-in-Err-clause-error
 returns-in-Err-clause-error c =
+    let s = c.args.m.now.scale in
     let m = c.args.m.now.entries in
     let text = c.args.text.now in
     let k = c.loop-rest.count in
@@ -55,10 +57,10 @@ returns-in-Err-clause-error c =
     let cuts : before_first (λ b. b == 10) c.loop-rest.rest.now ∷ text_lines (after_first (λ b. b == 10) c.loop-rest.rest.now) ≡ line ∷ text_lines c.cut.result.1.now =
     rw (c.cut.ensures.before, c.cut.ensures.after) refl in
     let left = c.loop-rest.invariant.lines_left ∙ first-line c.loop-rest.rest.now some ∙ cuts in
-    let fault : fault_at m (text_lines text) k ≡ first_fault (line_tests m c.loop-rest.reader.begun (length c.loop-rest.reader.changes) line) =
-    fault-here m (text_lines text) k line (text_lines c.cut.result.1.now) left
+    let fault : fault_at s m (text_lines text) k ≡ first_fault (line_tests s m c.loop-rest.reader.begun (length c.loop-rest.reader.changes) line) =
+    fault-here s m (text_lines text) k line (text_lines c.cut.result.1.now) left
     ∙ rw (c.loop-rest.invariant.begun, c.loop-rest.invariant.changes) refl in
-    let wrong = right_error m text k c.in-Err.fault (line_tests m c.loop-rest.reader.begun (length c.loop-rest.reader.changes) line)
+    let wrong = right_error s m text k c.in-Err.fault (line_tests s m c.loop-rest.reader.begun (length c.loop-rest.reader.changes) line)
     (here (text_lines text) k line (text_lines c.cut.result.1.now) left) c.loop-rest.invariant.no_fault fault c.in-Err.ensures.tests in
     rw c.error_at.ensures wrong
 
@@ -72,7 +74,7 @@ returns-then-begun-clause-changes c =
     record {
       begun = ap (list_any has_words) (sym all.1) ∙ sym c.loop-rest.invariant.begun ∙ c.if-begun.true;
       no_fault = rw all.0 at c.loop-rest.invariant.no_fault;
-      are = c.loop-rest.invariant.changes ∙ ap (changes_of c.args.m.now.entries) all.1;
+      are = c.loop-rest.invariant.changes ∙ ap (changes_of c.args.m.now.scale c.args.m.now.entries) all.1;
     }
 
 pub returns-else-begun-clause-error : goal.returns-else-begun-clause-error

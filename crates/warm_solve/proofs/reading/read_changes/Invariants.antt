@@ -14,7 +14,7 @@ invariant-loop-rest l = record {
   bytes : l.count + length l.rest ≤ length l.fn.text;
   within : l.count ≤ length (text_lines l.fn.text);
   lines_left : drop l.count (text_lines l.fn.text) ≡ text_lines l.rest;
-  changes : l.reader.changes ≡ changes_of l.fn.m.entries (take l.count (text_lines l.fn.text));
+  changes : l.reader.changes ≡ changes_of l.fn.m.scale l.fn.m.entries (take l.count (text_lines l.fn.text));
   begun : l.reader.begun ≡ list_any has_words (take l.count (text_lines l.fn.text));
-  no_fault : NoFaultBefore l.fn.m.entries (text_lines l.fn.text) l.count;
+  no_fault : NoFaultBefore l.fn.m.scale l.fn.m.entries (text_lines l.fn.text) l.count;
 }
