@@ -12,6 +12,7 @@ use Rattle.theory.specs.Grounded.{Entries, grounded}
 use Rattle.theory.proofs.GroundedLaw.{grounded_is_network, length-grounded_arcs}
 use Rattle.outside_io.specs.Sink.{Grew}
 use Rattle.model_text.specs.Model.{IsWellFormed, node_names, place_of}
+use Rattle.model_text.specs.declared.scale.Scale.{Scale}
 use Rattle.model_text.proofs.FirstPlace.{found as found_at}
 use Rattle.path_cut.specs.GreatestFlow.{IsGreatestFlow, FlowHasNoTop}
 use Rattle.path_cut.specs.GreatestTension.{IsGreatestTension, TensionHasNoTop}
@@ -111,16 +112,16 @@ module _ (Next : ℕ → ℕ → Status → List ℕ → Type 0) (status : Statu
 
 -- ---- what is found says so
 
-module _ (m : Entries) (from to : ℕ) (formed : IsWellFormed m) (from_there : from < length m.nodes + 1) (to_there : to < length m.nodes + 1) (status : Status) (text : List ℕ) where
+module _ (s : Scale) (m : Entries) (from to : ℕ) (formed : IsWellFormed m) (from_there : from < length m.nodes + 1) (to_there : to < length m.nodes + 1) (status : Status) (text : List ℕ) where
   good : IsNetwork (grounded m)
   good = grounded_is_network m formed.model
 
-  flow_says : (finds : FindsFlow m from to status text) → FlowSays (returned (grounded m) from to) finds.found
+  flow_says : (finds : FindsFlow s m from to status text) → FlowSays (returned (grounded m) from to) finds.found
   flow_says finds =
       flow-says (returned (grounded m) from to) finds.found (returned-network (grounded m) from to good from_there to_there finds.apart)
       (returned-has (grounded m) from to good.one_curve_each) finds.is_found
 
-  tension_says : (finds : FindsTension m from to status text) → TensionSays (grounded m) from to finds.found
+  tension_says : (finds : FindsTension s m from to status text) → TensionSays (grounded m) from to finds.found
   tension_says finds = tension-says (grounded m) from to finds.found good from_there to_there finds.is_found
 
   -- what each kind of flow found says of the three statuses
@@ -155,10 +156,10 @@ module _ (m : Entries) (from to : ℕ) (formed : IsWellFormed m) (from_there : f
         lacks = (λ e. absurd cc, λ lacks. let some = lacks.some in absurd (says some.0 some.1 some.2 some.3));
       }
 
-  pub flow_kind : FindsFlow m from to status text → IsFlowKind
+  pub flow_kind : FindsFlow s m from to status text → IsFlowKind
   flow_kind finds = flow_kind_by finds.found (flow_says finds) finds.kind
 
-  pub concludes_flow : (old new : Option (List ℕ)) → FindsFlow m from to status text → Grew old new text → ConcludesFlow m from to status old new
+  pub concludes_flow : (old new : Option (List ℕ)) → FindsFlow s m from to status text → Grew old new text → ConcludesFlow s m from to status old new
   concludes_flow old new finds grew =
       let kind = flow_kind finds in
       record {
@@ -202,10 +203,10 @@ module _ (m : Entries) (from to : ℕ) (formed : IsWellFormed m) (from_there : f
         lacks = (λ e. absurd cc, λ lacks. let some = lacks.some in absurd (says some.0 some.1 some.2 some.3));
       }
 
-  pub tension_kind : FindsTension m from to status text → IsTensionKind
+  pub tension_kind : FindsTension s m from to status text → IsTensionKind
   tension_kind finds = tension_kind_by finds.found (tension_says finds) finds.kind
 
-  pub concludes_tension : (old new : Option (List ℕ)) → FindsTension m from to status text → Grew old new text → ConcludesTension m from to status old new
+  pub concludes_tension : (old new : Option (List ℕ)) → FindsTension s m from to status text → Grew old new text → ConcludesTension s m from to status old new
   concludes_tension old new finds grew =
       let kind = tension_kind finds in
       record {

@@ -4,6 +4,7 @@ use Rattle.std.proofs.Common.{◌≡◌, ℕ, List, [], ◌∷◌, Ok, inl, inr,
 use Rattle.theory.specs.Grounded.{Entries}
 use Rattle.outside_io.specs.Counts.{Counts, Rose}
 use Rattle.model_text.specs.Model.{Formed}
+use Rattle.model_text.specs.declared.scale.Scale.{Scale}
 use Rattle.outside_io.specs.Seen.{Seen, Outside, Moves, since, logged}
 use Rattle.mono_top.specs.Answer.{ReadsThen, AnswersModel, behind}
 use Rattle.mono_top.specs.Checks.{ChecksText}
@@ -18,9 +19,9 @@ use Rattle.mono_top.specs.declared.lines.Place.TheVariants.{First, Second}
 use Rattle.mono_top.specs.declared.status.Status.{Status}
 use Rattle.mono_top.proofs.StartLemmas.{started_further}
 
-pub answered : (name : List ℕ) (outside : Outside) (model : Formed) (Next : Entries → Status → List ℕ → Type 0) (status : Status) (text : List ℕ)
-    → FetchesModel name outside (Ok (Model model)) → Next model.entries status text → ReadsThen First name (OfModel Next) outside status text
-answered name outside model Next status text (bytes, held, short, spells) next = inr (bytes, held, short, inr (model.entries, spells, next))
+pub answered : (name : List ℕ) (outside : Outside) (model : Formed) (Next : Scale → Entries → Status → List ℕ → Type 0) (status : Status) (text : List ℕ)
+    → FetchesModel name outside (Ok (Model model)) → Next model.scale model.entries status text → ReadsThen First name (OfModel Next) outside status text
+answered name outside model Next status text (bytes, held, short, spells) next = inr (bytes, held, short, inr (model.scale, model.entries, spells, next))
 
 rose_before : (a b c : ℕ) → Counts a b → Rose b c → Rose a c
 rose_before a b c counts rose = let later = counts.later in grind (arith, later, rose)
@@ -39,11 +40,11 @@ module _ (old mid new : Seen) (first : List ℕ) (moves : Moves old mid) (start 
   of_whole_call place name Next status text (inr (bytes, at_hand, short, next)) = inr (bytes, rw moves.holds at at_hand, short, next)
 
   -- the answer to a question about a model reads no file, or one that is read in this part
-  pub answers_whole_call : (question : Question) (m : Entries) (status : Status) (text : List ℕ)
-      → AnswersModel question (since mid new) m status text → AnswersModel question (behind first (since old new)) m status text
-  answers_whole_call (check certificate) m status text checks = of_whole_call Second certificate (ChecksText m) status text checks
-  answers_whole_call (pieces certificate) m status text (inl refused) = inl refused
-  answers_whole_call (pieces certificate) m status text (inr (small, reads)) =
-      inr (small, of_whole_call Second certificate (SplitsText m) status text reads)
-  answers_whole_call (resolve changes) m status text reads = of_whole_call Second changes (ResolvesText m) status text reads
-  answers_whole_call question m status text answers = answers
+  pub answers_whole_call : (question : Question) (s : Scale) (m : Entries) (status : Status) (text : List ℕ)
+      → AnswersModel question (since mid new) s m status text → AnswersModel question (behind first (since old new)) s m status text
+  answers_whole_call (check certificate) s m status text checks = of_whole_call Second certificate (ChecksText s m) status text checks
+  answers_whole_call (pieces certificate) s m status text (inl refused) = inl refused
+  answers_whole_call (pieces certificate) s m status text (inr (small, reads)) =
+      inr (small, of_whole_call Second certificate (SplitsText s m) status text reads)
+  answers_whole_call (resolve changes) s m status text reads = of_whole_call Second changes (ResolvesText s m) status text reads
+  answers_whole_call question s m status text answers = answers

@@ -12,6 +12,7 @@ use Rattle.theory.proofs.Refusals.{negative_cut, negative_circuit}
 use Rattle.theory.proofs.GroundedLaw.{grounded_is_network}
 use Rattle.outside_io.specs.Sink.{Grew}
 use Rattle.model_text.specs.Model.{IsWellFormed}
+use Rattle.model_text.specs.declared.scale.Scale.{Scale}
 use Rattle.mono_top.specs.Solves.{IsCertified, status_of}
 use Rattle.cert_text.specs.declared.feasible.FlowPart.{FlowPart}
 use Rattle.cert_text.specs.declared.feasible.FlowPart.TheVariants.{Yes as YesFlow, No as NoFlow}
@@ -47,9 +48,9 @@ kind_is net (circuit x walk span) status says is = record {
   circuit_is = (λ e. (λ none. none 1 x one_is_one says.flow, says.no_potential), λ both. is);
 }
 
-pub concludes : (m : Entries) (status : Status) (text : List ℕ) (old new : Option (List ℕ)) → IsWellFormed m → IsCertified m status text → Grew old new text
-    → Concludes m status old new
-concludes m status text old new formed certified grew =
+pub concludes : (s : Scale) (m : Entries) (status : Status) (text : List ℕ) (old new : Option (List ℕ)) → IsWellFormed m → IsCertified s m status text → Grew old new text
+    → Concludes s m status old new
+concludes s m status text old new formed certified grew =
     let says = certificate_says (grounded m) certified.certificate (grounded_is_network m formed.model) certified.valid in
     record {
       text = text;
@@ -60,9 +61,9 @@ concludes m status text old new formed certified grew =
       tension_refused = (kind_is (grounded m) certified.certificate status says certified.kind).circuit_is;
     }
 
-pub concludes_check : (m : Entries) (bytes : List ℕ) (status : Status) → IsWellFormed m → IsJudged m bytes status → ConcludesCheck m bytes status
-concludes_check m bytes status formed judged =
-    let says : (valid : IsValidText m bytes) → Says (grounded m) valid.certificate =
+pub concludes_check : (s : Scale) (m : Entries) (bytes : List ℕ) (status : Status) → IsWellFormed m → IsJudged s m bytes status → ConcludesCheck s m bytes status
+concludes_check s m bytes status formed judged =
+    let says : (valid : IsValidText s m bytes) → Says (grounded m) valid.certificate =
     λ valid. certificate_says (grounded m) valid.certificate (grounded_is_network m formed.model) valid.valid in
     elim judged [
       | inl (done, valid) ↦ record {
@@ -78,8 +79,8 @@ concludes_check m bytes status formed judged =
     ]
 
 -- each part says whether there is something feasible
-pub concludes_feasible : (m : Entries) (status : Status) (text : List ℕ) → IsWellFormed m → FindsFeasible m status text → ConcludesFeasible m status
-concludes_feasible m status text formed finds =
+pub concludes_feasible : (s : Scale) (m : Entries) (status : Status) (text : List ℕ) → IsWellFormed m → FindsFeasible s m status text → ConcludesFeasible m status
+concludes_feasible s m status text formed finds =
     by_parts finds.flow finds.tension finds.flow_is.shows finds.tension_is finds.kind
   where
     net : Network

@@ -7,6 +7,7 @@ use Rattle.theory.specs.Grounded.{Entries}
 use Rattle.outside_io.specs.Files.{Files, file_of}
 use Rattle.model_text.specs.declared.fault.FaultWord.{FaultWord}
 use Rattle.model_text.specs.ModelText.{Spells, IsFirstFault}
+use Rattle.model_text.specs.declared.scale.Scale.{Scale}
 use Rattle.model_text.proofs.TextLaws.{one_model, spelled_or_bad, one_fault}
 use Rattle.outside_io.specs.Seen.{Outside}
 use Rattle.mono_top.specs.Answer.{ReadsThen, RefusesFile}
@@ -58,21 +59,22 @@ of_last question place name Next outside status text step (inr (bytes, held, sho
 
 -- ---- the answer to a model file
 
-pub fault_is_refused : (Next : Entries → Status → List ℕ → Type 0) (bytes : List ℕ) (status : Status) (text : List ℕ) (line : ℕ) (word : FaultWord)
+pub fault_is_refused : (Next : Scale → Entries → Status → List ℕ → Type 0) (bytes : List ℕ) (status : Status) (text : List ℕ) (line : ℕ) (word : FaultWord)
     → OfModel Next bytes status text → IsFirstFault bytes line word → status ≡ ModelRefused line word
 fault_is_refused Next bytes status text line word (inl (at_line, its, fault, is, said)) first =
     let same = one_fault bytes at_line line its word fault first in
     let line_is = same.0 in
     let word_is = same.1 in
     cc
-fault_is_refused Next bytes status text line word (inr (m, spells, next)) first = absurd (spelled_or_bad bytes m line word spells first)
+fault_is_refused Next bytes status text line word (inr (s, m, spells, next)) first = absurd (spelled_or_bad bytes s m line word spells first)
 
 -- the answer to the model that the text spells
-pub next_of_model : (Next : Entries → Status → List ℕ → Type 0) (bytes : List ℕ) (status : Status) (text : List ℕ) (m : Entries)
-    → OfModel Next bytes status text → Spells bytes m → Next m status text
-next_of_model Next bytes status text m (inl (line, word, fault, is, said)) spells = absurd (spelled_or_bad bytes m line word spells fault)
-next_of_model Next bytes status text m (inr (n, its, next)) spells =
-    subst (λ (k : Entries). Next k status text) (one_model bytes n m its spells) next
+pub next_of_model : (Next : Scale → Entries → Status → List ℕ → Type 0) (bytes : List ℕ) (status : Status) (text : List ℕ) (s : Scale) (m : Entries)
+    → OfModel Next bytes status text → Spells bytes s m → Next s m status text
+next_of_model Next bytes status text s m (inl (line, word, fault, is, said)) spells = absurd (spelled_or_bad bytes s m line word spells fault)
+next_of_model Next bytes status text s m (inr (t, n, its, next)) spells =
+    let same = one_model bytes t s n m its spells in
+    subst (λ (k : Entries). Next s k status text) same.1 (subst (λ (r : Scale). Next r n status text) same.0 next)
 
 -- what is due of the files behind a model: nothing where it is too big, and no status is then that of a file
 abbrev pub IsDueBehind : (Files → List ℕ → Type 0) → Type 0 → List (List ℕ) → Outside → Status → Type 0
@@ -80,12 +82,12 @@ IsDueBehind Opens TooBigModel names outside status =
     TooBigModel × IsRead status ⊎ (¬ TooBigModel) × IsDueOfFiles Opens names outside status
 
 -- a model file, and then the files that the question reads after it
-module _ (question : Question) (name : List ℕ) (names : List (List ℕ)) (Next : Entries → Status → List ℕ → Type 0) (outside : Outside) (status : Status) (text : List ℕ) where
+module _ (question : Question) (name : List ℕ) (names : List (List ℕ)) (Next : Scale → Entries → Status → List ℕ → Type 0) (outside : Outside) (status : Status) (text : List ℕ) where
   -- the text is that of this model
   of_model : (bytes : List ℕ) → ForSome outside.holds (λ files. file_of files name ≡ Some bytes) → length bytes ≤ file_most
-      → (m : Entries) → Spells bytes m → IsDueBehind (IsOpenFor question) (IsTooBigFor question m) names outside status
+      → (s : Scale) (m : Entries) → Spells bytes s m → IsDueBehind (IsOpenFor question) (IsTooBigFor question m) names outside status
       → IsDueOfFiles (IsOpenFor question) (name ∷ names) outside status
-  of_model bytes held short m spells (inl (big, own)) =
+  of_model bytes held short s m spells (inl (big, own)) =
       record {
         has_text = (own.written, own.room);
         missed = λ is. absurd (own.held is);
@@ -97,18 +99,19 @@ module _ (question : Question) (name : List ℕ) (names : List (List ℕ)) (Next
           | inr further ↦
               let file = further.0 in
               let same : file.0 ≡ bytes = let first = held files told in let also = file.1 in cc in
-              let model : file.3.0 ≡ m = one_model bytes file.3.0 m (subst (λ (b : List ℕ). Spells b file.3.0) same file.3.1) spells in
-              absurd (file.3.2 (subst (λ (n : Entries). IsTooBigFor question n) (sym model) big))
+              let model : file.3.1 ≡ m =
+              (one_model bytes file.3.0 s file.3.1 m (subst (λ (b : List ℕ). Spells b file.3.0 file.3.1) same file.3.2) spells).1 in
+              absurd (file.3.3 (subst (λ (n : Entries). IsTooBigFor question n) (sym model) big))
         ];
         readable = λ files told readable. (own.held, own.short);
       }
-  of_model bytes held short m spells (inr (small, after)) =
+  of_model bytes held short s m spells (inr (small, after)) =
       record {
         has_text = after.has_text;
         missed = after.missed;
-        not_held = λ is files told. inr ((bytes, held files told, short, (m, spells, small)), after.not_held is files told);
+        not_held = λ is files told. inr ((bytes, held files told, short, (s, m, spells, small)), after.not_held is files told);
         faulted = after.faulted;
-        too_long = λ is files told. inr ((bytes, held files told, short, (m, spells, small)), after.too_long is files told);
+        too_long = λ is files told. inr ((bytes, held files told, short, (s, m, spells, small)), after.too_long is files told);
         too_long_always = λ files told reaches quiet. elim reaches [
           | inl long ↦ grind (arith, long, held files told)
           | inr further ↦ after.too_long_always files told further.1 quiet
@@ -116,7 +119,7 @@ module _ (question : Question) (name : List ℕ) (names : List (List ℕ)) (Next
         readable = λ files told readable. after.readable files told readable.1;
       }
 
-  pub of_model_file : ((m : Entries) → Next m status text → IsDueBehind (IsOpenFor question) (IsTooBigFor question m) names outside status)
+  pub of_model_file : ((s : Scale) (m : Entries) → Next s m status text → IsDueBehind (IsOpenFor question) (IsTooBigFor question m) names outside status)
       → ReadsThen First name (OfModel Next) outside status text → IsDueOfFiles (IsOpenFor question) (name ∷ names) outside status
   of_model_file step (inl refused) = of_refused question First name names outside status text refused
   of_model_file step (inr (bytes, held, short, inl (line, word, fault, is, said))) =
@@ -131,11 +134,11 @@ module _ (question : Question) (name : List ℕ) (names : List (List ℕ)) (Next
           | inr further ↦
               let spelled = further.0 in
               let same : bytes ≡ spelled.0 = let first = held files told in let also = spelled.1 in cc in
-              absurd (spelled_or_bad spelled.0 spelled.3.0 line word spelled.3.1 (subst (λ (b : List ℕ). IsFirstFault b line word) same fault))
+              absurd (spelled_or_bad spelled.0 spelled.3.0 spelled.3.1 line word spelled.3.2 (subst (λ (b : List ℕ). IsFirstFault b line word) same fault))
         ];
         readable = λ files told readable. (λ e. cc, λ e. cc);
       }
-  of_model_file step (inr (bytes, held, short, inr (m, spells, next))) = of_model bytes held short m spells (step m next)
+  of_model_file step (inr (bytes, held, short, inr (s, m, spells, next))) = of_model bytes held short s m spells (step s m next)
 
 -- the file was read whole, and this is the answer to its text
 pub record IsOfText (name : List ℕ) (Next : List ℕ → Status → List ℕ → Type 0) (outside : Outside) (status : Status) (text : List ℕ) : Type 0 where

@@ -16,6 +16,7 @@ use Rattle.outside_io.specs.Files.{Files, file_of}
 use Rattle.outside_io.specs.Sink.{Grew}
 use Rattle.model_text.specs.Model.{IsWellFormed}
 use Rattle.model_text.specs.declared.fault.FaultWord.{FaultWord}
+use Rattle.model_text.specs.declared.scale.Scale.{Scale}
 use Rattle.cert_text.specs.CertificateText.{certificate_text}
 use Rattle.ground_net.proofs.Replacing.{replaced_is_network}
 use Rattle.warm_solve.specs.ChangesText.{Change, changes_most, Spells, IsFirstFault}
@@ -33,14 +34,14 @@ use Rattle.mono_top.proofs.HeadlineLemmas.{kind_is}
 -- ---- the lines, one after the other
 
 -- what follows the line of a state
-abbrev pub Follows : Entries → ℕ → Network → Certificate → List Change → Status → List ℕ → Type 0
-Follows m count net c [] status rest = (status ≡ status_of c) × (rest ≡ certificate_text m c)
-Follows m count net c (change ∷ changes) status rest = States m (count + 1) (changed net change) changes status rest
+abbrev pub Follows : Scale → Entries → ℕ → Network → Certificate → List Change → Status → List ℕ → Type 0
+Follows s m count net c [] status rest = (status ≡ status_of c) × (rest ≡ certificate_text s m c)
+Follows s m count net c (change ∷ changes) status rest = States s m (count + 1) (changed net change) changes status rest
 
-pub with_line : (m : Entries) (count : ℕ) (net : Network) (c : Certificate) (changes : List Change) (status : Status) (rest : List ℕ) → IsValid net c
-    → Follows m count net c changes status rest → States m count net changes status (state_line count c ++ rest)
-with_line m count net c [] status rest valid (is, last) = (c, valid, is, ap (λ behind. state_line count c ++ behind) last)
-with_line m count net c (change ∷ changes) status rest valid follows = (c, valid, (rest, refl, follows))
+pub with_line : (s : Scale) (m : Entries) (count : ℕ) (net : Network) (c : Certificate) (changes : List Change) (status : Status) (rest : List ℕ) → IsValid net c
+    → Follows s m count net c changes status rest → States s m count net changes status (state_line s count c ++ rest)
+with_line s m count net c [] status rest valid (is, last) = (c, valid, is, ap (λ behind. state_line s count c ++ behind) last)
+with_line s m count net c (change ∷ changes) status rest valid follows = (c, valid, (rest, refl, follows))
 
 -- ---- what the text needs: a change of a curve changes no count
 
@@ -62,10 +63,10 @@ pub record IsLast (net : Network) (status : Status) : Type 0 where
   pub valid : IsValid net certificate
   pub kind : status ≡ status_of certificate
 
-pub last_of : (m : Entries) (count : ℕ) (net : Network) (changes : List Change) (status : Status) (text : List ℕ) → States m count net changes status text
+pub last_of : (s : Scale) (m : Entries) (count : ℕ) (net : Network) (changes : List Change) (status : Status) (text : List ℕ) → States s m count net changes status text
     → IsLast (all_changed net changes) status
-last_of m count net [] status text (c, valid, kind, is) = record { certificate = c; valid = valid; kind = kind }
-last_of m count net (change ∷ changes) status text (c, valid, (rest, is, states)) = last_of m (count + 1) (changed net change) changes status rest states
+last_of s m count net [] status text (c, valid, kind, is) = record { certificate = c; valid = valid; kind = kind }
+last_of s m count net (change ∷ changes) status text (c, valid, (rest, is, states)) = last_of s m (count + 1) (changed net change) changes status rest states
 
 changed_is_network : (m : Entries) (net : Network) (changes : List Change) → IsNetwork net → length net.arcs ≡ length m.nodes + length m.arcs
     → All (IsChangeOf m) changes → IsNetwork (all_changed net changes)
@@ -77,27 +78,27 @@ changed_is_network m net (change ∷ changes) good count fit =
 
 -- ---- the answer to a text
 
-pub resolves_of : (m : Entries) (bytes : List ℕ) (changes : List Change) (status : Status) (text : List ℕ) → ResolvesText m bytes status text
-    → Spells m bytes changes → Resolves m changes status text
-resolves_of m bytes changes status text (inl (line, word, fault, is, said)) spells = absurd (spelled_or_bad m bytes changes line word spells fault)
-resolves_of m bytes changes status text (inr (others, its, states)) spells =
-    subst (λ (cs : List Change). Resolves m cs status text) (one_list m bytes others changes its spells) states
+pub resolves_of : (s : Scale) (m : Entries) (bytes : List ℕ) (changes : List Change) (status : Status) (text : List ℕ) → ResolvesText s m bytes status text
+    → Spells s m bytes changes → Resolves s m changes status text
+resolves_of s m bytes changes status text (inl (line, word, fault, is, said)) spells = absurd (spelled_or_bad s m bytes changes line word spells fault)
+resolves_of s m bytes changes status text (inr (others, its, states)) spells =
+    subst (λ (cs : List Change). Resolves s m cs status text) (one_list s m bytes others changes its spells) states
 
-pub fault_is_told : (m : Entries) (bytes : List ℕ) (line : ℕ) (word : FaultWord) (status : Status) (text : List ℕ) → ResolvesText m bytes status text
-    → IsFirstFault m bytes line word → status ≡ ChangesRefused line word
-fault_is_told m bytes line word status text (inl (at_line, its, fault, is, said)) first =
-    let same = one_fault m bytes at_line line its word fault first in
+pub fault_is_told : (s : Scale) (m : Entries) (bytes : List ℕ) (line : ℕ) (word : FaultWord) (status : Status) (text : List ℕ) → ResolvesText s m bytes status text
+    → IsFirstFault s m bytes line word → status ≡ ChangesRefused line word
+fault_is_told s m bytes line word status text (inl (at_line, its, fault, is, said)) first =
+    let same = one_fault s m bytes at_line line its word fault first in
     let line_is = same.0 in
     let word_is = same.1 in
     cc
-fault_is_told m bytes line word status text (inr (changes, spells, states)) first = absurd (spelled_or_bad m bytes changes line word spells first)
+fault_is_told s m bytes line word status text (inr (changes, spells, states)) first = absurd (spelled_or_bad s m bytes changes line word spells first)
 
-pub concludes_resolve : (m : Entries) (bytes : List ℕ) (changes : List Change) (status : Status) (text : List ℕ) (old new : Option (List ℕ)) → IsWellFormed m
-    → Spells m bytes changes → Resolves m changes status text → Grew old new text → ConcludesResolve m changes status old new
-concludes_resolve m bytes changes status text old new formed spells resolves grew =
+pub concludes_resolve : (s : Scale) (m : Entries) (bytes : List ℕ) (changes : List Change) (status : Status) (text : List ℕ) (old new : Option (List ℕ)) → IsWellFormed m
+    → Spells s m bytes changes → Resolves s m changes status text → Grew old new text → ConcludesResolve s m changes status old new
+concludes_resolve s m bytes changes status text old new formed spells resolves grew =
     let net = all_changed (grounded m) changes in
-    let good : IsNetwork net = changed_is_network m (grounded m) changes (grounded_is_network m formed.model) (length-grounded_arcs m) (spelled_fits m bytes changes spells).each in
-    let last = last_of m 0 (grounded m) changes status text resolves in
+    let good : IsNetwork net = changed_is_network m (grounded m) changes (grounded_is_network m formed.model) (length-grounded_arcs m) (spelled_fits s m bytes changes spells).each in
+    let last = last_of s m 0 (grounded m) changes status text resolves in
     let says = certificate_says net last.certificate good last.valid in
     let kind = kind_is net last.certificate status says last.kind in
     record {
@@ -113,19 +114,19 @@ concludes_resolve m bytes changes status text old new formed spells resolves gre
 
 -- ---- the readings, said of the file
 
-pub reads_file : (holds : Option Files) (name : List ℕ) (m : Entries) (bytes : List ℕ) (before now : ℕ)
-    → ForSome holds (λ files. file_of files name ≡ Some bytes) → length bytes ≤ file_most → ReadsChangesText m bytes before now
-    → ForSome holds (λ files. ReadsChangesFile files name m before now)
-reads_file holds name m bytes before now held short reads files told = record {
+pub reads_file : (holds : Option Files) (name : List ℕ) (s : Scale) (m : Entries) (bytes : List ℕ) (before now : ℕ)
+    → ForSome holds (λ files. file_of files name ≡ Some bytes) → length bytes ≤ file_most → ReadsChangesText s m bytes before now
+    → ForSome holds (λ files. ReadsChangesFile files name s m before now)
+reads_file holds name s m bytes before now held short reads files told = record {
   bounded = λ changes file.
       let same : file.0 ≡ bytes = let first = held files told in let also = file.1 in cc in
-      reads.bounded changes (subst (λ (b : List ℕ). Spells m b changes) same file.3);
+      reads.bounded changes (subst (λ (b : List ℕ). Spells s m b changes) same file.3);
   unread = λ none. reads.unread (λ changes spells. none (bytes, held files told, short, (changes, spells)));
 }
 
-pub reads_nothing : (holds : Option Files) (name : List ℕ) (m : Entries) (before now : ℕ) → now ≡ before
-    → ForSome holds (λ files. ReadsChangesFile files name m before now)
-reads_nothing holds name m before now same files told = record { bounded = λ changes file. omega arith; unread = λ none. same }
+pub reads_nothing : (holds : Option Files) (name : List ℕ) (s : Scale) (m : Entries) (before now : ℕ) → now ≡ before
+    → ForSome holds (λ files. ReadsChangesFile files name s m before now)
+reads_nothing holds name s m before now same files told = record { bounded = λ changes file. omega arith; unread = λ none. same }
 
 -- ---- the changes that are left
 
@@ -142,17 +143,17 @@ others_fit m changes others change is fit =
 bound_most : (m : Entries) (count : ℕ) → count ≤ changes_most → resolve_bound count m ≤ resolve_bound changes_most m
 bound_most m count few = mul-le-mul_right (net_bound (grounded m)) (omega arith)
 
-pub reads_spelled : (m : Entries) (bytes : List ℕ) (changes : List Change) (before now : ℕ) → Spells m bytes changes → before ≤ now
-    → now ≤ before + resolve_bound (length changes) m → ReadsChangesText m bytes before now
-reads_spelled m bytes changes before now spells no_fewer bounded = record {
+pub reads_spelled : (s : Scale) (m : Entries) (bytes : List ℕ) (changes : List Change) (before now : ℕ) → Spells s m bytes changes → before ≤ now
+    → now ≤ before + resolve_bound (length changes) m → ReadsChangesText s m bytes before now
+reads_spelled s m bytes changes before now spells no_fewer bounded = record {
   no_fewer = no_fewer;
-  most = omega (arith, bound_most m (length changes) (spelled_fits m bytes changes spells).few);
-  bounded = λ others its. subst (λ (cs : List Change). now ≤ before + resolve_bound (length cs) m) (one_list m bytes changes others spells its) bounded;
+  most = omega (arith, bound_most m (length changes) (spelled_fits s m bytes changes spells).few);
+  bounded = λ others its. subst (λ (cs : List Change). now ≤ before + resolve_bound (length cs) m) (one_list s m bytes changes others spells its) bounded;
   unread = λ none. absurd (none changes spells);
 }
 
-pub reads_unspelled : (m : Entries) (bytes : List ℕ) (before now : ℕ) → now ≡ before → ReadsChangesText m bytes before now
-reads_unspelled m bytes before now same = record {
+pub reads_unspelled : (s : Scale) (m : Entries) (bytes : List ℕ) (before now : ℕ) → now ≡ before → ReadsChangesText s m bytes before now
+reads_unspelled s m bytes before now same = record {
   no_fewer = omega arith;
   most = omega arith;
   bounded = λ changes its. omega arith;

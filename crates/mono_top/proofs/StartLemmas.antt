@@ -5,6 +5,7 @@ use Rattle.outside_io.specs.Seen.{Seen, Outside, since, logged}
 use Rattle.outside_io.proofs.Logs.{logged-logged}
 use Rattle.model_text.specs.Model.{Formed}
 use Rattle.model_text.specs.ModelText.{Spells}
+use Rattle.model_text.specs.declared.scale.Scale.{Scale}
 use Rattle.model_text.proofs.TextLaws.{one_model}
 use Rattle.theory.specs.Grounded.{Entries}
 use Rattle.mono_top.specs.Answer.{ReadsThen}
@@ -42,7 +43,7 @@ module _ (old mid new : Seen) (first : List ℕ) (start : mid.log ≡ logged old
 
 -- a file that spells a model is refused by a fault alone
 pub refused_by_fault : (model : List ℕ) (outside : Outside) (status : Status) (text : List ℕ)
-    → ReadsThen First model (OfModel (λ m status text. ⊥)) outside status text → ForSome outside.holds (λ files. IsModelFile files model → outside.faulted)
+    → ReadsThen First model (OfModel (λ s m status text. ⊥)) outside status text → ForSome outside.holds (λ files. IsModelFile files model → outside.faulted)
 refused_by_fault model outside status text (inl (started, inl (is, line, missed, not_held))) files told file =
     let none = not_held files told in let held = file.1 in absurd cc
 refused_by_fault model outside status text (inl (started, inr (inl (is, line, faulted)))) files told file = faulted
@@ -50,7 +51,7 @@ refused_by_fault model outside status text (inl (started, inr (inr (is, line, lo
     let past = long files told in absurd (grind (arith, length-append {A = ℕ}, past, file))
 refused_by_fault model outside status text (inr (bytes, at_hand, short, next)) files told file =
     let same : bytes ≡ file.0 = let first = at_hand files told in let held = file.1 in cc in
-    absurd (next_of_model (λ m status text. ⊥) bytes status text file.3.0 next (subst (λ (b : List ℕ). Spells b file.3.0) (sym same) file.3.1))
+    absurd (next_of_model (λ s m status text. ⊥) bytes status text file.3.0 file.3.1 next (subst (λ (b : List ℕ). Spells b file.3.0 file.3.1) (sym same) file.3.2))
 
 -- ---- the files that a call starts
 
@@ -68,18 +69,19 @@ question_in request other = other
 pub starts_all : (model : List ℕ) (question : Question) (outside : Outside) (starved : Type 0) (found : Formed)
     → FetchesModel model outside (Ok (Model found)) → StartsInTurnOf question found.entries model outside → StartsFiles (Some (about_model model question)) outside starved
 starts_all model question outside starved found (bytes, held, short, spells) (inr (small, started)) = record {
-  in_turn = inr (started, λ files told. (bytes, held files told, short, (found.entries, spells, small)));
+  in_turn = inr (started, λ files told. (bytes, held files told, short, (found.scale, found.entries, spells, small)));
   all = λ files told asks quiet. inl started;
 }
 starts_all model question outside starved found (bytes, held, short, spells) (inl (big, started)) = record {
   in_turn = inl started;
   all = λ files told asks quiet.
-      let its : asks.0 ≡ question = ap (λ (r : Option Request). question_in r question) (sym asks.2.1) in
-      let name : asks.2.0 ≡ model = ap (λ (r : Option Request). first_of r model) (sym asks.2.1) in
-      let file = subst (λ (n : List ℕ). IsFileWith files n (λ text. Spells text asks.1)) name asks.2.2 in
+      let its : asks.0 ≡ question = ap (λ (r : Option Request). question_in r question) (sym asks.3.1) in
+      let name : asks.3.0 ≡ model = ap (λ (r : Option Request). first_of r model) (sym asks.3.1) in
+      let file = subst (λ (n : List ℕ). IsFileWith files n (λ text. Spells text asks.1 asks.2)) name asks.3.2 in
       let same : file.0 ≡ bytes = let first = held files told in let also = file.1 in cc in
-      let is_model : asks.1 ≡ found.entries = one_model bytes asks.1 found.entries (subst (λ (b : List ℕ). Spells b asks.1) same file.3) spells in
-      absurd (asks.3 (subst (λ (n : Entries). IsTooBigFor asks.0 n) (sym is_model) (subst (λ (q : Question). IsTooBigFor q found.entries) (sym its) big)));
+      let is_model : asks.2 ≡ found.entries =
+      (one_model bytes asks.1 found.scale asks.2 found.entries (subst (λ (b : List ℕ). Spells b asks.1 asks.2) same file.3) spells).1 in
+      absurd (asks.4 (subst (λ (n : Entries). IsTooBigFor asks.0 n) (sym is_model) (subst (λ (q : Question). IsTooBigFor q found.entries) (sym its) big)));
 }
 
 -- the first file was refused, and no other was started
@@ -88,22 +90,22 @@ pub starts_refused : (model : List ℕ) (question : Question) (outside : Outside
 starts_refused model question outside starved reply refused started = record {
   in_turn = inl started;
   all = λ files told asks quiet.
-      let name : asks.2.0 ≡ model = ap (λ (r : Option Request). first_of r model) (sym asks.2.1) in
-      let file = subst (λ (n : List ℕ). IsModelFile files n) name (asks.2.2.0, asks.2.2.1, asks.2.2.2, (asks.1, asks.2.2.3)) in
+      let name : asks.3.0 ≡ model = ap (λ (r : Option Request). first_of r model) (sym asks.3.1) in
+      let file = subst (λ (n : List ℕ). IsModelFile files n) name (asks.3.2.0, asks.3.2.1, asks.3.2.2, (asks.1, asks.2, asks.3.2.3)) in
       absurd (quiet (refused_by_fault model outside reply.status (text_of reply.text) refused files told file));
 }
 
 -- no file was started
 pub starts_none : (outside : Outside) (starved : Type 0) → outside.started [] → StartsFiles None outside starved
-starts_none outside starved started = record { in_turn = started; all = λ files told asks quiet. let is = asks.2.1 in absurd cc }
+starts_none outside starved started = record { in_turn = started; all = λ files told asks quiet. let is = asks.3.1 in absurd cc }
 
 -- nor for a trial
 pub starts_none_for_trial : (number : ℕ) (outside : Outside) (starved : Type 0) → outside.started [] → StartsFiles (Some (about_trial number)) outside starved
-starts_none_for_trial number outside starved started = record { in_turn = started; all = λ files told asks quiet. let is = asks.2.1 in absurd cc }
+starts_none_for_trial number outside starved started = record { in_turn = started; all = λ files told asks quiet. let is = asks.3.1 in absurd cc }
 
 -- the table alone
 pub starts_table : (table : List ℕ) (outside : Outside) (starved : Type 0) → outside.started (table ∷ []) → StartsFiles (Some (about_table table)) outside starved
-starts_table table outside starved started = record { in_turn = started; all = λ files told asks quiet. let is = asks.2.1 in absurd cc }
+starts_table table outside starved started = record { in_turn = started; all = λ files told asks quiet. let is = asks.3.1 in absurd cc }
 
 -- the same with another word for a call that starved
 pub starved_by : (request : Option Request) (outside : Outside) (starved other : Type 0) → (starved → other) → StartsFiles request outside starved → StartsFiles request outside other

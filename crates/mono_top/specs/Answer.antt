@@ -5,14 +5,16 @@ use Rattle.std.specs.Prelude.{◌≡◌, ◌⊎◌, ℕ, ◌≤◌, List, [], �
 use Rattle.std.specs.Option.{ForSome}
 use Rattle.theory.specs.Grounded.{Entries}
 use Rattle.theory.specs.Limits.{file_most}
+use Rattle.model_text.specs.declared.scale.Scale.{Scale}
 use Rattle.outside_io.specs.Files.{file_of}
 use Rattle.outside_io.specs.Seen.{Outside}
 use Rattle.mono_top.specs.Lines.{usage_line, too_big_line, missing_line, read_fault_line, too_long_line}
 use Rattle.mono_top.specs.Reading.{IsReadPastMost}
-use Rattle.mono_top.specs.Request.{Request, about_model, about_trial, about_table, Question, solve, check, pieces, resolve, feasible, show_curve, show_tableau, greatest_flow, greatest_tension}
+use Rattle.mono_top.specs.Request.{Request, about_model, about_trial, about_table, Question, solve, check, pieces, resolve, feasible, show_curve, show_tableau, greatest_flow, greatest_tension, convert}
 use Rattle.mono_top.specs.OfModel.{OfModel}
 use Rattle.mono_top.specs.Between.{Between, FindsFlow, FindsTension}
 use Rattle.mono_top.specs.Checks.{ChecksText}
+use Rattle.mono_top.specs.Converts.{Converts}
 use Rattle.mono_top.specs.Resolves.{ResolvesText}
 use Rattle.mono_top.specs.ShowsCurve.{ShowsCurve}
 use Rattle.mono_top.specs.ShowsPieces.{SplitsText}
@@ -52,18 +54,19 @@ UnlessTooBig TooBigModel Next status text =
     TooBigModel × (status ≡ TooBig) × (text ≡ too_big_line)
     ⊎ (¬ TooBigModel) × Next status text
 
--- what is due to a question about a model that has been read; a further question is one more line
-abbrev pub AnswersModel : Question → Outside → Entries → Status → List ℕ → Type 0
-AnswersModel solve outside m status text = IsCertified m status text
-AnswersModel (check certificate) outside m status text = ReadsThen Second certificate (ChecksText m) outside status text
-AnswersModel (pieces certificate) outside m status text =
-    UnlessTooBig (IsTooBigFor (pieces certificate) m) (ReadsThen Second certificate (SplitsText m) outside) status text
-AnswersModel (resolve changes) outside m status text = ReadsThen Second changes (ResolvesText m) outside status text
-AnswersModel feasible outside m status text = FindsFeasible m status text
-AnswersModel (show_curve arc) outside m status text = ShowsCurve arc m status text
-AnswersModel show_tableau outside m status text = UnlessTooBig (IsTooBigFor show_tableau m) (ShowsTableau m) status text
-AnswersModel (greatest_flow from to) outside m status text = Between FindsFlow from to m status text
-AnswersModel (greatest_tension from to) outside m status text = Between FindsTension from to m status text
+-- what is due to a question about a model that has been read, at its scale; a further question is one more line
+abbrev pub AnswersModel : Question → Outside → Scale → Entries → Status → List ℕ → Type 0
+AnswersModel solve outside s m status text = IsCertified s m status text
+AnswersModel (check certificate) outside s m status text = ReadsThen Second certificate (ChecksText s m) outside status text
+AnswersModel (pieces certificate) outside s m status text =
+    UnlessTooBig (IsTooBigFor (pieces certificate) m) (ReadsThen Second certificate (SplitsText s m) outside) status text
+AnswersModel (resolve changes) outside s m status text = ReadsThen Second changes (ResolvesText s m) outside status text
+AnswersModel feasible outside s m status text = FindsFeasible s m status text
+AnswersModel (show_curve arc) outside s m status text = ShowsCurve arc s m status text
+AnswersModel show_tableau outside s m status text = UnlessTooBig (IsTooBigFor show_tableau m) (ShowsTableau m) status text
+AnswersModel (greatest_flow from to) outside s m status text = Between FindsFlow from to s m status text
+AnswersModel (greatest_tension from to) outside s m status text = Between FindsTension from to s m status text
+AnswersModel (convert to) outside s m status text = Converts to s m status text
 
 -- the order of the refusals is the order of the readings
 abbrev pub Answers : Option Request → Outside → Status → List ℕ → Type 0

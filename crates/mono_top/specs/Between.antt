@@ -7,6 +7,7 @@ use Rattle.theory.specs.Circuit.{step}
 use Rattle.theory.specs.Grounded.{Entries, grounded}
 use Rattle.model_text.specs.Model.{node_names, place_of}
 use Rattle.model_text.specs.Printed.{printed_line}
+use Rattle.model_text.specs.declared.scale.Scale.{Scale}
 use Rattle.cert_text.specs.CertificateText.{texts_below, number_line, supply_lines, arc_lines, side_line, step_line}
 use Rattle.cert_text.specs.FeasibilityText.{tension_line}
 use Rattle.path_cut.specs.Found.{IsFlowFound, IsTensionFound}
@@ -24,19 +25,21 @@ use Rattle.mono_top.specs.declared.status.Status.TheVariants.{Done, Cut, Circuit
 abbrev pub side_lines : Entries → List Bool → List ℕ
 side_lines m side = texts_below (length m.nodes + 1) (side_line m side)
 
-abbrev pub tension_lines : Entries → List ℤ → List ℕ
-tension_lines m u = texts_below (length m.nodes) (tension_line m u)
+abbrev pub tension_lines : Scale → Entries → List ℤ → List ℕ
+tension_lines s m u = texts_below (length m.nodes) (tension_line s m u)
 
--- the flows of the model's nodes and arcs; what the return carries is the number of the first line
-abbrev pub flow_text : Entries → FlowFound → List ℕ
-flow_text m (GreatestFlow t x side) = number_line (codes "maxflow") t ++ supply_lines m x ++ arc_lines m x ++ side_lines m side
-flow_text m (NoTopFlow x walk) = printed_line (codes "maxflow unbounded") [] ++ supply_lines m x ++ arc_lines m x ++ flat_map (step_line m) walk
-flow_text m (NoFlow side sum) = number_line (codes "maxflow no") sum ++ side_lines m side
+-- the flows of the model's nodes and arcs; what the return carries is the number of the first line, and a flow like them; where there is no flow,
+-- the capacity of the cut
+abbrev pub flow_text : Scale → Entries → FlowFound → List ℕ
+flow_text s m (GreatestFlow t x side) = number_line s.flow (codes "maxflow") t ++ supply_lines s m x ++ arc_lines s m x ++ side_lines m side
+flow_text s m (NoTopFlow x walk) = printed_line (codes "maxflow unbounded") [] ++ supply_lines s m x ++ arc_lines s m x ++ flat_map (step_line m) walk
+flow_text s m (NoFlow side sum) = number_line s.flow (codes "maxflow no") sum ++ side_lines m side
 
-abbrev pub tension_text : Entries → TensionFound → List ℕ
-tension_text m (GreatestTension t u walk) = number_line (codes "maxtension") t ++ tension_lines m u ++ flat_map (step_line m) walk
-tension_text m (NoTopTension u side) = printed_line (codes "maxtension unbounded") [] ++ tension_lines m u ++ side_lines m side
-tension_text m (NoTension walk sum) = number_line (codes "maxtension no") sum ++ flat_map (step_line m) walk
+-- the potentials of the model's nodes; the number of the first line is a tension too, and where there is no potential, the span of the circuit
+abbrev pub tension_text : Scale → Entries → TensionFound → List ℕ
+tension_text s m (GreatestTension t u walk) = number_line s.tension (codes "maxtension") t ++ tension_lines s m u ++ flat_map (step_line m) walk
+tension_text s m (NoTopTension u side) = printed_line (codes "maxtension unbounded") [] ++ tension_lines s m u ++ side_lines m side
+tension_text s m (NoTension walk sum) = number_line s.tension (codes "maxtension no") sum ++ flat_map (step_line m) walk
 
 -- what the texts need: a number for each line, and steps over arcs that have names
 abbrev pub WalkFits : Entries → List Step → Type 0
@@ -65,19 +68,19 @@ status_of_tension (NoTopTension u side) = Unbounded
 status_of_tension (NoTension walk sum) = Circuit
 
 -- between two different nodes of the grounded network
-pub record FindsFlow (m : Entries) (from to : ℕ) (status : Status) (text : List ℕ) : Type 0 where
+pub record FindsFlow (s : Scale) (m : Entries) (from to : ℕ) (status : Status) (text : List ℕ) : Type 0 where
   pub apart : from ≢ to
   pub found : FlowFound
   pub is_found : IsFlowFound (returned (grounded m) from to) found
   pub kind : status ≡ status_of_flow found
-  pub is : text ≡ flow_text m found
+  pub is : text ≡ flow_text s m found
 
-pub record FindsTension (m : Entries) (from to : ℕ) (status : Status) (text : List ℕ) : Type 0 where
+pub record FindsTension (s : Scale) (m : Entries) (from to : ℕ) (status : Status) (text : List ℕ) : Type 0 where
   pub apart : from ≢ to
   pub found : TensionFound
   pub is_found : IsTensionFound (grounded m) from to found
   pub kind : status ≡ status_of_tension found
-  pub is : text ≡ tension_text m found
+  pub is : text ≡ tension_text s m found
 
 -- by the positions of the two names: a model node stands behind the ground
 abbrev pub OfNodes : (ℕ → ℕ → Status → List ℕ → Type 0) → Option ℕ → Option ℕ → Status → List ℕ → Type 0
@@ -85,5 +88,5 @@ OfNodes Next (Some i) (Some k) status text = Next (i + 1) (k + 1) status text
 OfNodes Next (Some i) None status text = (status ≡ UnknownNode) × (text ≡ unknown_node_line)
 OfNodes Next None to status text = (status ≡ UnknownNode) × (text ≡ unknown_node_line)
 
-abbrev pub Between : (Entries → ℕ → ℕ → Status → List ℕ → Type 0) → List ℕ → List ℕ → Entries → Status → List ℕ → Type 0
-Between Next from to m status text = OfNodes (Next m) (place_of (node_names m) from) (place_of (node_names m) to) status text
+abbrev pub Between : (Scale → Entries → ℕ → ℕ → Status → List ℕ → Type 0) → List ℕ → List ℕ → Scale → Entries → Status → List ℕ → Type 0
+Between Next from to s m status text = OfNodes (Next s m) (place_of (node_names m) from) (place_of (node_names m) to) status text

@@ -1,5 +1,5 @@
 -- When each status comes, by the request and the files that the source holds.
-use Rattle.std.specs.Prelude.{◌≡◌, ◌≢◌, ◌⊎◌, ℕ, ◌+◌, List, Option, Some, None, IsSome}
+use Rattle.std.specs.Prelude.{◌≡◌, ◌≢◌, ◌⊎◌, ℕ, ◌+◌, true, List, Option, Some, None, IsSome}
 use Rattle.std.specs.Option.{ForSome}
 use Rattle.theory.specs.Grounded.{Entries, grounded}
 use Rattle.outside_io.specs.Files.{Files}
@@ -7,6 +7,8 @@ use Rattle.outside_io.specs.Seen.{Outside}
 use Rattle.model_text.specs.declared.fault.FaultWord.{FaultWord}
 use Rattle.model_text.specs.Model.{place_of, arc_names, node_names}
 use Rattle.model_text.specs.ModelText.{Spells, IsFirstFault}
+use Rattle.model_text.specs.Rescaled.{is_inexact}
+use Rattle.model_text.specs.declared.scale.Scale.{Scale}
 use Rattle.path_cut.specs.Returned.{returned}
 use Rattle.path_cut.specs.Says.{LacksGreatestFlow, LacksGreatestTension}
 use Rattle.warm_solve.specs.ChangesText.{Change, Spells as SpellsChanges, IsFirstFault as IsFirstFaultOfChanges}
@@ -14,7 +16,7 @@ use Rattle.mono_top.specs.Checks.{IsValidText}
 use Rattle.mono_top.specs.ShowsPieces.{IsFlowlessText}
 use Rattle.mono_top.specs.TooBig.{IsTooBigFor}
 use Rattle.mono_top.specs.Reading.{IsFileWith, AllReadable}
-use Rattle.mono_top.specs.Request.{Request, about_model, about_trial, Question, check, pieces, resolve, show_curve, greatest_flow, greatest_tension, files_of}
+use Rattle.mono_top.specs.Request.{Request, about_model, about_trial, Question, check, pieces, resolve, show_curve, greatest_flow, greatest_tension, convert, files_of}
 use Rattle.mono_top.specs.declared.status.Status.{Status}
 use Rattle.mono_top.specs.declared.status.Status.TheVariants.{Done, Usage, Missing, ReadFault, WriteFault, NoMemory, TooLong}
 
@@ -22,59 +24,66 @@ use Rattle.mono_top.specs.declared.status.Status.TheVariants.{Done, Usage, Missi
 abbrev pub AsksOfText : Files → Question → (List ℕ → Type 0) → Option Request → Type 0
 AsksOfText files question P request = (model : List ℕ) × (request ≡ Some (about_model model question)) × IsFileWith files model P
 
--- the request asks this question about a file that spells this model
-abbrev pub Asks : Files → Question → Entries → Option Request → Type 0
-Asks files question m request = AsksOfText files question (λ text. Spells text m) request
+-- the request asks this question about a file that spells this model at this scale
+abbrev pub Asks : Files → Question → Scale → Entries → Option Request → Type 0
+Asks files question s m request = AsksOfText files question (λ text. Spells text s m) request
 
 -- a question is asked about a model file: this first fault is its text's
 abbrev pub AsksFaulty : Files → ℕ → FaultWord → Option Request → Type 0
 AsksFaulty files line word request = (question : Question) × AsksOfText files question (λ text. IsFirstFault text line word) request
 
 -- `check` was asked for: the first file spells this model, and the second file has this text, whatever it is
-abbrev pub AsksToCheck : Files → Entries → List ℕ → Option Request → Type 0
-AsksToCheck files m text request =
-    (certificate : List ℕ) × Asks files (check certificate) m request × IsFileWith files certificate (λ bytes. bytes ≡ text)
+abbrev pub AsksToCheck : Files → Scale → Entries → List ℕ → Option Request → Type 0
+AsksToCheck files s m text request =
+    (certificate : List ℕ) × Asks files (check certificate) s m request × IsFileWith files certificate (λ bytes. bytes ≡ text)
 
 -- `pieces` was asked for: the first file spells this model, which is not too big, and the second file has this text
-abbrev pub AsksToSplit : Files → Entries → List ℕ → Option Request → Type 0
-AsksToSplit files m text request =
-    (certificate : List ℕ) × Asks files (pieces certificate) m request × (¬ IsTooBigFor (pieces certificate) m)
+abbrev pub AsksToSplit : Files → Scale → Entries → List ℕ → Option Request → Type 0
+AsksToSplit files s m text request =
+    (certificate : List ℕ) × Asks files (pieces certificate) s m request × (¬ IsTooBigFor (pieces certificate) m)
     × IsFileWith files certificate (λ bytes. bytes ≡ text)
 
 -- one of them was asked for, and that text is not one of a valid certificate
 abbrev pub AsksInvalid : Files → Option Request → Type 0
 AsksInvalid files request =
-    (m : Entries) × (text : List ℕ) × (AsksToCheck files m text request ⊎ AsksToSplit files m text request) × ¬ IsValidText m text
+    (s : Scale) × (m : Entries) × (text : List ℕ) × (AsksToCheck files s m text request ⊎ AsksToSplit files s m text request)
+    × ¬ IsValidText s m text
 
 -- `pieces` was asked for, and that text is one of a valid certificate in which there is no flow
 abbrev pub AsksNoFlow : Files → Option Request → Type 0
-AsksNoFlow files request = (m : Entries) × (text : List ℕ) × AsksToSplit files m text request × IsFlowlessText m text
+AsksNoFlow files request = (s : Scale) × (m : Entries) × (text : List ℕ) × AsksToSplit files s m text request × IsFlowlessText s m text
 
 -- `resolve` was asked for: the first file spells this model, and P holds of the second file's text
-abbrev pub AsksToResolve : Files → Entries → (List ℕ → Type 0) → Option Request → Type 0
-AsksToResolve files m P request = (changes : List ℕ) × Asks files (resolve changes) m request × IsFileWith files changes P
+abbrev pub AsksToResolve : Files → Scale → Entries → (List ℕ → Type 0) → Option Request → Type 0
+AsksToResolve files s m P request = (changes : List ℕ) × Asks files (resolve changes) s m request × IsFileWith files changes P
 
 -- the text spells these changes
-abbrev pub AsksChanges : Files → Entries → List Change → Option Request → Type 0
-AsksChanges files m changes request = AsksToResolve files m (λ text. SpellsChanges m text changes) request
+abbrev pub AsksChanges : Files → Scale → Entries → List Change → Option Request → Type 0
+AsksChanges files s m changes request = AsksToResolve files s m (λ text. SpellsChanges s m text changes) request
 
 -- this first fault is the text's
 abbrev pub AsksFaultyChanges : Files → ℕ → FaultWord → Option Request → Type 0
-AsksFaultyChanges files line word request = (m : Entries) × AsksToResolve files m (λ text. IsFirstFaultOfChanges m text line word) request
+AsksFaultyChanges files line word request =
+    (s : Scale) × (m : Entries) × AsksToResolve files s m (λ text. IsFirstFaultOfChanges s m text line word) request
 
 -- the model is too big for the question
 abbrev pub AsksTooBig : Files → Option Request → Type 0
-AsksTooBig files request = (question : Question) × (m : Entries) × Asks files question m request × IsTooBigFor question m
+AsksTooBig files request = (question : Question) × (s : Scale) × (m : Entries) × Asks files question s m request × IsTooBigFor question m
+
+-- `convert` was asked for, and a number of the model isn't whole at that scale, or too great
+abbrev pub AsksInexact : Files → Option Request → Type 0
+AsksInexact files request = (to s : Scale) × (m : Entries) × Asks files (convert to) s m request × (is_inexact s to m ≡ true)
 
 -- `curve` was asked for, and the model has no arc of that name
 abbrev pub AsksUnknownArc : Files → Option Request → Type 0
 AsksUnknownArc files request =
-    (arc : List ℕ) × (m : Entries) × Asks files (show_curve arc) m request × (place_of (arc_names m) arc ≡ None)
+    (arc : List ℕ) × (s : Scale) × (m : Entries) × Asks files (show_curve arc) s m request × (place_of (arc_names m) arc ≡ None)
 
 -- `maxflow` or `maxtension` was asked for, and the model has no node of one of the two names
 abbrev pub AsksUnknownNode : Files → Option Request → Type 0
 AsksUnknownNode files request =
-    (from to : List ℕ) × (m : Entries) × (Asks files (greatest_flow from to) m request ⊎ Asks files (greatest_tension from to) m request)
+    (from to : List ℕ) × (s : Scale) × (m : Entries)
+    × (Asks files (greatest_flow from to) s m request ⊎ Asks files (greatest_tension from to) s m request)
     × ((place_of (node_names m) from ≡ None) ⊎ (place_of (node_names m) to ≡ None))
 
 -- the model's nodes of these names stand at these positions
@@ -84,9 +93,9 @@ AreNodes m from to i k = (place_of (node_names m) from ≡ Some i) × (place_of 
 -- `maxflow` or `maxtension` was asked for, and there are feasible flows, or potentials, over some denominator, but none is greatest
 abbrev pub AsksUnbounded : Files → Option Request → Type 0
 AsksUnbounded files request =
-    (from to : List ℕ) × (m : Entries) × (i k : ℕ) × AreNodes m from to i k
-    × (Asks files (greatest_flow from to) m request × LacksGreatestFlow (returned (grounded m) (i + 1) (k + 1))
-    ⊎ Asks files (greatest_tension from to) m request × LacksGreatestTension (grounded m) (i + 1) (k + 1))
+    (from to : List ℕ) × (s : Scale) × (m : Entries) × (i k : ℕ) × AreNodes m from to i k
+    × (Asks files (greatest_flow from to) s m request × LacksGreatestFlow (returned (grounded m) (i + 1) (k + 1))
+    ⊎ Asks files (greatest_tension from to) s m request × LacksGreatestTension (grounded m) (i + 1) (k + 1))
 
 -- a command was asked for, and its files are readable
 abbrev pub IsAnswerable : Files → Option Request → Type 0

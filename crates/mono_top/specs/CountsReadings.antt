@@ -5,6 +5,7 @@ use Rattle.std.specs.Option.{ForSome}
 use Rattle.theory.specs.Grounded.{Entries, grounded}
 use Rattle.outside_io.specs.Files.{Files}
 use Rattle.model_text.specs.ModelText.{Spells}
+use Rattle.model_text.specs.declared.scale.Scale.{Scale}
 use Rattle.warm_solve.specs.ChangesText.{Change, changes_most, Spells as SpellsChanges}
 use Rattle.mono_top.specs.NetBound.{net_bound}
 use Rattle.mono_top.specs.Reading.{IsFileWith, IsModelFile}
@@ -26,20 +27,20 @@ readings_most (greatest_tension from to) m = Some (net_bound (grounded m))
 readings_most question m = Some 0
 
 -- of the changes that the text spells of the model; where it spells none, nothing is read
-pub record ReadsChangesText (m : Entries) (bytes : List ℕ) (before now : ℕ) : Type 0 where
+pub record ReadsChangesText (s : Scale) (m : Entries) (bytes : List ℕ) (before now : ℕ) : Type 0 where
   pub no_fewer : before ≤ now
   pub most : now ≤ before + resolve_bound changes_most m
-  pub bounded : (changes : List Change) → SpellsChanges m bytes changes → now ≤ before + resolve_bound (length changes) m
-  pub unread : ((changes : List Change) → SpellsChanges m bytes changes → ⊥) → now ≡ before
+  pub bounded : (changes : List Change) → SpellsChanges s m bytes changes → now ≤ before + resolve_bound (length changes) m
+  pub unread : ((changes : List Change) → SpellsChanges s m bytes changes → ⊥) → now ≡ before
 
 -- the same of the text of a file
-pub record ReadsChangesFile (files : Files) (name : List ℕ) (m : Entries) (before now : ℕ) : Type 0 where
-  pub bounded : (changes : List Change) → IsFileWith files name (λ text. SpellsChanges m text changes) → now ≤ before + resolve_bound (length changes) m
-  pub unread : (IsFileWith files name (λ text. (changes : List Change) × SpellsChanges m text changes) → ⊥) → now ≡ before
+pub record ReadsChangesFile (files : Files) (name : List ℕ) (s : Scale) (m : Entries) (before now : ℕ) : Type 0 where
+  pub bounded : (changes : List Change) → IsFileWith files name (λ text. SpellsChanges s m text changes) → now ≤ before + resolve_bound (length changes) m
+  pub unread : (IsFileWith files name (λ text. (changes : List Change) × SpellsChanges s m text changes) → ⊥) → now ≡ before
 
-abbrev pub ReadsChanges : Question → Files → Entries → ℕ → ℕ → Type 0
-ReadsChanges (resolve changes) files m before now = ReadsChangesFile files changes m before now
-ReadsChanges question files m before now = Unit {0}
+abbrev pub ReadsChanges : Question → Files → Scale → Entries → ℕ → ℕ → Type 0
+ReadsChanges (resolve changes) files s m before now = ReadsChangesFile files changes s m before now
+ReadsChanges question files s m before now = Unit {0}
 
 -- of a model at hand
 pub record ReadsCurves (question : Question) (m : Entries) (before now : ℕ) : Type 0 where
@@ -50,9 +51,9 @@ pub record ReadsCurves (question : Question) (m : Entries) (before now : ℕ) : 
 pub record ReadsWithin (model : List ℕ) (question : Question) (holds : Option Files) (before now : ℕ) : Type 0 where
   pub no_fewer : before ≤ now
   pub stays : ((m : Entries) → readings_most question m ≡ Some 0) → now ≡ before
-  pub bounded : ForSome holds (λ files. (m : Entries) → IsFileWith files model (λ text. Spells text m)
+  pub bounded : ForSome holds (λ files. (s : Scale) (m : Entries) → IsFileWith files model (λ text. Spells text s m)
       → IfSome (readings_most question m) (λ most. now ≤ before + most))
-  pub changes : ForSome holds (λ files. (m : Entries) → IsFileWith files model (λ text. Spells text m) → ReadsChanges question files m before now)
+  pub changes : ForSome holds (λ files. (s : Scale) (m : Entries) → IsFileWith files model (λ text. Spells text s m) → ReadsChanges question files s m before now)
   pub unread : ForSome holds (λ files. ¬ IsModelFile files model → now ≡ before)
 
 abbrev pub CountsReadings : Option Request → Option Files → ℕ → ℕ → Type 0

@@ -6,13 +6,13 @@ use Rattle.outside_io.specs.Whole.{IsTooLong}
 use Rattle.outside_io.specs.Seen.{Outside}
 use Rattle.theory.specs.Limits.{file_most}
 use Rattle.model_text.specs.declared.fault.FaultWord.{FaultWord}
-use Rattle.mono_top.specs.Causes.{AsksFaulty, AsksFaultyChanges, AsksInvalid, AsksNoFlow, AsksTooBig, AsksTrial, AsksUnbounded, AsksUnknownArc, AsksUnknownNode, ComesBy}
+use Rattle.mono_top.specs.Causes.{AsksFaulty, AsksFaultyChanges, AsksInexact, AsksInvalid, AsksNoFlow, AsksTooBig, AsksTrial, AsksUnbounded, AsksUnknownArc, AsksUnknownNode, ComesBy}
 use Rattle.mono_top.specs.TableFiles.{AsksFaultyTable}
 use Rattle.transport_front.specs.declared.fault.TableWord.{TableWord}
 use Rattle.mono_top.specs.Reading.{AllReadable, IsOpen, IsReadPastMost, Reaches}
 use Rattle.mono_top.specs.Request.{Request, files_of}
 use Rattle.mono_top.specs.declared.status.Status.{Status}
-use Rattle.mono_top.specs.declared.status.Status.TheVariants.{Done, Rejected, Usage, ModelRefused, Missing, ReadFault, WriteFault, NoMemory, TooLong, TooBig, UnknownArc, NoFlow, Unbounded, UnknownNode, TableRefused, ChangesRefused}
+use Rattle.mono_top.specs.declared.status.Status.TheVariants.{Done, Rejected, Usage, ModelRefused, Missing, ReadFault, WriteFault, NoMemory, TooLong, TooBig, UnknownArc, NotConverted, NoFlow, Unbounded, UnknownNode, TableRefused, ChangesRefused}
 
 -- of the files that were to be read, in this order, each behind an open one
 pub record IsDueOfFiles (Opens : Files → List ℕ → Type 0) (names : List (List ℕ)) (outside : Outside) (status : Status) : Type 0 where
@@ -33,6 +33,7 @@ pub record IsDue (request : Option Request) (outside : Outside) (status : Status
   pub refused : (line : ℕ) (word : FaultWord) → ComesBy (ModelRefused line word) (λ files. AsksFaulty files line word request) outside status
   pub rejected : ComesBy Rejected (λ files. AsksInvalid files request) outside status
   pub too_big : ComesBy TooBig (λ files. AsksTooBig files request) outside status
+  pub not_converted : ComesBy NotConverted (λ files. AsksInexact files request) outside status
   pub no_flow : ComesBy NoFlow (λ files. AsksNoFlow files request) outside status
   pub unknown_arc : ComesBy UnknownArc (λ files. AsksUnknownArc files request) outside status
   pub unknown_node : ComesBy UnknownNode (λ files. AsksUnknownNode files request) outside status

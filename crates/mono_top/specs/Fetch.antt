@@ -32,7 +32,7 @@ Fetches place name outside (Err error) = ForSome outside.holds (λ files. IsHeld
 -- the model that the first file spells, or the line that refuses the file or its text
 abbrev pub FetchesModel : List ℕ → Outside → Result FetchedModel AllocError → Type 0
 FetchesModel name outside (Ok (Model model)) =
-    (bytes : List ℕ) × ForSome outside.holds (λ files. file_of files name ≡ Some bytes) × (length bytes ≤ file_most) × Spells bytes model.entries
+    (bytes : List ℕ) × ForSome outside.holds (λ files. file_of files name ≡ Some bytes) × (length bytes ≤ file_most) × Spells bytes model.scale model.entries
 FetchesModel name outside (Ok (RefusedModel reply)) =
-    ReadsThen First name (OfModel (λ m status text. ⊥)) outside reply.status (text_of reply.text)
+    ReadsThen First name (OfModel (λ s m status text. ⊥)) outside reply.status (text_of reply.text)
 FetchesModel name outside (Err error) = ForSome outside.holds (λ files. IsHeld files name)

@@ -2,6 +2,7 @@
 -- that refuses every potential.
 use Rattle.std.specs.Prelude.{◌≡◌, ℕ, List}
 use Rattle.theory.specs.Grounded.{Entries, grounded}
+use Rattle.model_text.specs.declared.scale.Scale.{Scale}
 use Rattle.cert_text.specs.FeasibilityText.{feasibility_text}
 use Rattle.cert_text.specs.declared.feasible.FlowPart.{FlowPart}
 use Rattle.cert_text.specs.declared.feasible.FlowPart.TheVariants.{Yes as YesFlow, No as NoFlow}
@@ -17,10 +18,10 @@ status_of_parts (NoFlow side capacity) tension = Cut
 status_of_parts (YesFlow x) (NoTension walk span) = Circuit
 status_of_parts (YesFlow x) (YesTension u) = Done
 
-pub record FindsFeasible (m : Entries) (status : Status) (text : List ℕ) : Type 0 where
+pub record FindsFeasible (s : Scale) (m : Entries) (status : Status) (text : List ℕ) : Type 0 where
   pub flow : FlowPart
   pub tension : TensionPart
   pub flow_is : IsFlowPart (grounded m) flow
   pub tension_is : IsTensionPart (grounded m) tension
   pub kind : status ≡ status_of_parts flow tension
-  pub is : text ≡ feasibility_text m flow tension
+  pub is : text ≡ feasibility_text s m flow tension

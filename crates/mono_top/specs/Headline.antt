@@ -8,6 +8,7 @@ use Rattle.theory.specs.Grounded.{Entries, grounded}
 use Rattle.theory.specs.Certificate.{Certificate, IsValid}
 use Rattle.theory.specs.Best.{FlowIsRefused, TensionIsRefused}
 use Rattle.theory.specs.CertificateLaws.{Says}
+use Rattle.model_text.specs.declared.scale.Scale.{Scale}
 use Rattle.outside_io.specs.Sink.{Grew}
 use Rattle.path_cut.specs.GreatestFlow.{IsGreatestFlow, FlowHasNoTop}
 use Rattle.path_cut.specs.GreatestTension.{IsGreatestTension, TensionHasNoTop}
@@ -21,9 +22,9 @@ use Rattle.mono_top.specs.Checks.{IsValidText}
 use Rattle.mono_top.specs.declared.status.Status.{Status}
 use Rattle.mono_top.specs.declared.status.Status.TheVariants.{Done, Cut, Circuit, Rejected, Unbounded}
 
-pub record Concludes (m : Entries) (status : Status) (old new : Option (List ℕ)) : Type 0 where
+pub record Concludes (s : Scale) (m : Entries) (status : Status) (old new : Option (List ℕ)) : Type 0 where
   pub text : List ℕ
-  pub certified : IsCertified m status text
+  pub certified : IsCertified s m status text
   pub written : Grew old new text
   pub says : Says (grounded m) certified.certificate
   pub flow_refused : (status ≡ Cut) ↔ FlowIsRefused (grounded m)
@@ -31,9 +32,9 @@ pub record Concludes (m : Entries) (status : Status) (old new : Option (List ℕ
 
 -- A call to `resolve` writes the lines of the states and the text of the last certificate. That one is valid for the network with all changes, and
 -- of its one right kind.
-pub record ConcludesResolve (m : Entries) (changes : List Change) (status : Status) (old new : Option (List ℕ)) : Type 0 where
+pub record ConcludesResolve (s : Scale) (m : Entries) (changes : List Change) (status : Status) (old new : Option (List ℕ)) : Type 0 where
   pub text : List ℕ
-  pub resolves : Resolves m changes status text
+  pub resolves : Resolves s m changes status text
   pub written : Grew old new text
   pub certificate : Certificate
   pub valid : IsValid (all_changed (grounded m) changes) certificate
@@ -43,10 +44,10 @@ pub record ConcludesResolve (m : Entries) (changes : List Change) (status : Stat
 
 -- What a call to `check` concludes of a model and a text: it is accepted exactly where it is the text of a valid
 -- certificate, and then what the certificate says is true.
-pub record ConcludesCheck (m : Entries) (text : List ℕ) (status : Status) : Type 0 where
-  pub accepted : (status ≡ Done) ↔ IsValidText m text
-  pub rejected : (status ≡ Rejected) ↔ (¬ IsValidText m text)
-  pub says : (valid : IsValidText m text) → Says (grounded m) valid.certificate
+pub record ConcludesCheck (s : Scale) (m : Entries) (text : List ℕ) (status : Status) : Type 0 where
+  pub accepted : (status ≡ Done) ↔ IsValidText s m text
+  pub rejected : (status ≡ Rejected) ↔ (¬ IsValidText s m text)
+  pub says : (valid : IsValidText s m text) → Says (grounded m) valid.certificate
 
 -- What a call to `feasible` concludes of a model: whether there are a feasible flow and a feasible potential, over any
 -- fractions.
@@ -57,9 +58,9 @@ pub record ConcludesFeasible (m : Entries) (status : Status) : Type 0 where
 
 -- What a call to `maxflow` concludes of two nodes of a model: what was found, and what it says over all fractions. Each of its three statuses comes
 -- exactly where it says so.
-pub record ConcludesFlow (m : Entries) (from to : ℕ) (status : Status) (old new : Option (List ℕ)) : Type 0 where
+pub record ConcludesFlow (s : Scale) (m : Entries) (from to : ℕ) (status : Status) (old new : Option (List ℕ)) : Type 0 where
   pub text : List ℕ
-  pub finds : FindsFlow m from to status text
+  pub finds : FindsFlow s m from to status text
   pub written : Grew old new text
   pub says : FlowSays (returned (grounded m) from to) finds.found
   pub greatest : (status ≡ Done) ↔ ((t : ℤ) × IsGreatestFlow (returned (grounded m) from to) t)
@@ -67,9 +68,9 @@ pub record ConcludesFlow (m : Entries) (from to : ℕ) (status : Status) (old ne
   pub refused : (status ≡ Cut) ↔ FlowIsRefused (returned (grounded m) from to)
 
 -- The same of a call to `maxtension`.
-pub record ConcludesTension (m : Entries) (from to : ℕ) (status : Status) (old new : Option (List ℕ)) : Type 0 where
+pub record ConcludesTension (s : Scale) (m : Entries) (from to : ℕ) (status : Status) (old new : Option (List ℕ)) : Type 0 where
   pub text : List ℕ
-  pub finds : FindsTension m from to status text
+  pub finds : FindsTension s m from to status text
   pub written : Grew old new text
   pub says : TensionSays (grounded m) from to finds.found
   pub greatest : (status ≡ Done) ↔ ((t : ℤ) × IsGreatestTension (grounded m) from to t)

@@ -3,6 +3,7 @@ pub mod Ascending
 pub mod Between
 pub mod Causes
 pub mod Checks
+pub mod Converts
 pub mod CountsReadings
 pub mod Due
 pub mod Ending

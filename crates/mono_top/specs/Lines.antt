@@ -18,6 +18,9 @@ unknown_node_line = codes "unknown node\n"
 abbrev pub too_big_line : List ℕ
 too_big_line = codes "too big\n"
 
+abbrev pub not_converted_line : List ℕ
+not_converted_line = codes "not converted\n"
+
 abbrev pub no_flow_line : List ℕ
 no_flow_line = codes "no flow\n"
 

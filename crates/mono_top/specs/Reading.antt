@@ -5,6 +5,7 @@ use Rattle.theory.specs.Limits.{file_most}
 use Rattle.outside_io.specs.Files.{Files, file_of}
 use Rattle.outside_io.specs.Whole.{IsHeld, IsTooLong}
 use Rattle.model_text.specs.ModelText.{Spells}
+use Rattle.model_text.specs.declared.scale.Scale.{Scale}
 use Rattle.mono_top.specs.Request.{Request, about_model, Question, files_of}
 use Rattle.mono_top.specs.TooBig.{IsTooBigFor}
 
@@ -18,7 +19,7 @@ IsFileWith files name P = (text : List ℕ) × (file_of files name ≡ Some text
 
 -- the file is readable, and its text spells a model
 abbrev pub IsModelFile : Files → List ℕ → Type 0
-IsModelFile files name = IsFileWith files name (λ text. (m : Entries) × Spells text m)
+IsModelFile files name = IsFileWith files name (λ text. (s : Scale) × (m : Entries) × Spells text s m)
 
 -- `file_most + 1` bytes of the file were read, and `rest` is what follows them
 abbrev pub IsReadPastMost : Files → Option (List ℕ) → List ℕ → Type 0
@@ -27,7 +28,7 @@ IsReadPastMost files rest name =
 
 -- the file is readable, and its text spells a model that is not too big for the question
 abbrev pub IsOpenFor : Question → Files → List ℕ → Type 0
-IsOpenFor question files name = IsFileWith files name (λ text. (m : Entries) × Spells text m × (¬ IsTooBigFor question m))
+IsOpenFor question files name = IsFileWith files name (λ text. (s : Scale) × (m : Entries) × Spells text s m × (¬ IsTooBigFor question m))
 
 -- a file behind which the request reads the next one
 abbrev pub IsOpen : Option Request → Files → List ℕ → Type 0

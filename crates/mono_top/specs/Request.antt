@@ -3,13 +3,16 @@ use Rattle.std.specs.Prelude.{◌≢◌, List, [], ◌∷◌, ℕ, map, codes, O
 use Rattle.std.specs.Cmp.Lexicographic.{pointwise}
 use Rattle.std.specs.Option.{option_map}
 use Rattle.std.specs.declared.alloc.Global.{Global}
+use Rattle.model_text.specs.ModelText.{decimals_of, scale_by}
+use Rattle.model_text.specs.Scale.{IsScale}
+use Rattle.model_text.specs.declared.scale.Scale.{Scale}
 use Rattle.mono_top.specs.TrialNumber.{trial_number}
 use Rattle.mono_top.specs.declared.command.Command.{Command}
 use Rattle.mono_top.specs.declared.command.Command.TheVariants.{OnModel, Trial, Transport}
 use Rattle.mono_top.specs.declared.command.Task.{Task}
-use Rattle.mono_top.specs.declared.command.Task.TheVariants.{Solve, Check, Pieces, Resolve, Feasible, Curve, Tableau, MaxFlow, MaxTension}
+use Rattle.mono_top.specs.declared.command.Task.TheVariants.{Solve, Check, Pieces, Resolve, Feasible, Curve, Tableau, MaxFlow, MaxTension, Convert}
 
--- what may be asked about a model, with the names of the files that are read after the model's, or of an arc, or of two nodes
+-- what may be asked about a model, with the names of the files that are read after the model's, or of an arc, or of two nodes, or with a scale
 pub data Question : Type 0 where
   solve : Question
   check : (certificate : List ℕ) → Question
@@ -20,6 +23,7 @@ pub data Question : Type 0 where
   show_tableau : Question
   greatest_flow : (from to : List ℕ) → Question
   greatest_tension : (from to : List ℕ) → Question
+  convert : (to : Scale) → Question
 
 -- what may be asked for: a question about a model, with the name of its file; the trial model of a number, which names no file; or the plan of
 -- a table, with the name of its file
@@ -45,25 +49,27 @@ request_of (command ∷ model ∷ other ∷ []) =
     else (if pointwise nat_eq command (codes "pieces") then Some (about_model model (pieces other))
     else (if pointwise nat_eq command (codes "resolve") then Some (about_model model (resolve other))
     else (if pointwise nat_eq command (codes "curve") then Some (about_model model (show_curve other)) else None)))
-request_of (command ∷ model ∷ from ∷ to ∷ []) =
-    if pointwise nat_eq from to then None
-    else (if pointwise nat_eq command (codes "maxflow") then Some (about_model model (greatest_flow from to))
-    else (if pointwise nat_eq command (codes "maxtension") then Some (about_model model (greatest_tension from to)) else None))
+request_of (command ∷ model ∷ one ∷ other ∷ []) =
+    if pointwise nat_eq command (codes "convert") then option_map (λ to. about_model model (convert to)) (scale_by (decimals_of one) (decimals_of other))
+    else (if pointwise nat_eq one other then None
+    else (if pointwise nat_eq command (codes "maxflow") then Some (about_model model (greatest_flow one other))
+    else (if pointwise nat_eq command (codes "maxtension") then Some (about_model model (greatest_tension one other)) else None)))
 request_of words = None
 
 -- what the words of a call ask for
 abbrev pub asked : List (String Global) → Option Request
 asked words = request_of (texts words)
 
--- the two nodes that a question names have different names
-abbrev pub IsApart : Question → Type 0
-IsApart (greatest_flow from to) = from ≢ to
-IsApart (greatest_tension from to) = from ≢ to
-IsApart question = Unit {0}
+-- the two nodes that a question names have different names, and a scale that it names is one
+abbrev pub IsProper : Question → Type 0
+IsProper (greatest_flow from to) = from ≢ to
+IsProper (greatest_tension from to) = from ≢ to
+IsProper (convert to) = IsScale to
+IsProper question = Unit {0}
 
-abbrev pub IsApartRequest : Request → Type 0
-IsApartRequest (about_model model question) = IsApart question
-IsApartRequest request = Unit {0}
+abbrev pub IsProperRequest : Request → Type 0
+IsProperRequest (about_model model question) = IsProper question
+IsProperRequest request = Unit {0}
 
 -- the files that are read after the model, in this order
 abbrev pub later_files : Question → List (List ℕ)
@@ -90,6 +96,7 @@ question_by (Curve arc) = show_curve arc.now
 question_by Tableau = show_tableau
 question_by (MaxFlow from to) = greatest_flow from.now to.now
 question_by (MaxTension from to) = greatest_tension from.now to.now
+question_by (Convert to) = convert to
 
 abbrev pub request_by : Command → Request
 request_by (OnModel model task) = about_model model.now (question_by task)

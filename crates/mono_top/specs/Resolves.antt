@@ -5,15 +5,16 @@ use Rattle.std.specs.Prelude.{◌≡◌, ◌⊎◌, ℕ, ◌+◌, List, [], ◌�
 use Rattle.theory.specs.Network.{Network}
 use Rattle.theory.specs.Grounded.{Entries, grounded}
 use Rattle.theory.specs.Certificate.{Certificate, IsValid}
-use Rattle.model_text.specs.Printed.{printed_line, printed_number}
+use Rattle.model_text.specs.Printed.{printed_fixed, printed_line, printed_number}
 use Rattle.model_text.specs.declared.fault.FaultWord.{FaultWord}
+use Rattle.model_text.specs.declared.scale.Scale.{Scale}
 use Rattle.cert_text.specs.CertificateText.{certificate_text}
 use Rattle.ground_net.specs.Ground.{replaced}
 use Rattle.warm_solve.specs.ChangesText.{Change, Spells, IsFirstFault}
 use Rattle.mono_top.specs.Lines.{changes_line}
 use Rattle.mono_top.specs.Reports.{number_of}
 use Rattle.mono_top.specs.Solves.{status_of}
-use Rattle.mono_top.specs.VerdictLines.{kind_word}
+use Rattle.mono_top.specs.VerdictLines.{kind_word, number_decimals}
 use Rattle.mono_top.specs.declared.status.Status.{Status}
 use Rattle.mono_top.specs.declared.status.Status.TheVariants.{ChangesRefused}
 
@@ -26,21 +27,22 @@ all_changed net [] = net
 all_changed net (change ∷ changes) = all_changed (changed net change) changes
 
 -- so many changes were made; the kind and the number of the certificate
-abbrev pub state_line : ℕ → Certificate → List ℕ
-state_line count c = printed_line (codes "state") (printed_number (pos count) ∷ kind_word c ∷ printed_number (number_of c) ∷ [])
+abbrev pub state_line : Scale → ℕ → Certificate → List ℕ
+state_line s count c =
+    printed_line (codes "state") (printed_number (pos count) ∷ kind_word c ∷ printed_fixed (number_decimals s c) (number_of c) ∷ [])
 
 -- from a network on, to which so many changes have led
-abbrev pub States : Entries → ℕ → Network → List Change → Status → List ℕ → Type 0
-States m count net [] status text =
-    (c : Certificate) × IsValid net c × (status ≡ status_of c) × (text ≡ state_line count c ++ certificate_text m c)
-States m count net (change ∷ changes) status text =
+abbrev pub States : Scale → Entries → ℕ → Network → List Change → Status → List ℕ → Type 0
+States s m count net [] status text =
+    (c : Certificate) × IsValid net c × (status ≡ status_of c) × (text ≡ state_line s count c ++ certificate_text s m c)
+States s m count net (change ∷ changes) status text =
     (c : Certificate) × IsValid net c
-    × ((rest : List ℕ) × (text ≡ state_line count c ++ rest) × States m (count + 1) (changed net change) changes status rest)
+    × ((rest : List ℕ) × (text ≡ state_line s count c ++ rest) × States s m (count + 1) (changed net change) changes status rest)
 
-abbrev pub Resolves : Entries → List Change → Status → List ℕ → Type 0
-Resolves m changes status text = States m 0 (grounded m) changes status text
+abbrev pub Resolves : Scale → Entries → List Change → Status → List ℕ → Type 0
+Resolves s m changes status text = States s m 0 (grounded m) changes status text
 
-abbrev pub ResolvesText : Entries → List ℕ → Status → List ℕ → Type 0
-ResolvesText m bytes status text =
-    ((line : ℕ) × (word : FaultWord) × IsFirstFault m bytes line word × (status ≡ ChangesRefused line word) × (text ≡ changes_line line word))
-    ⊎ ((changes : List Change) × Spells m bytes changes × Resolves m changes status text)
+abbrev pub ResolvesText : Scale → Entries → List ℕ → Status → List ℕ → Type 0
+ResolvesText s m bytes status text =
+    ((line : ℕ) × (word : FaultWord) × IsFirstFault s m bytes line word × (status ≡ ChangesRefused line word) × (text ≡ changes_line line word))
+    ⊎ ((changes : List Change) × Spells s m bytes changes × Resolves s m changes status text)

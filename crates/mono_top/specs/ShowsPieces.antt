@@ -6,7 +6,8 @@ use Rattle.theory.specs.Circuit.{step}
 use Rattle.theory.specs.Grounded.{Entries, grounded}
 use Rattle.theory.specs.Certificate.{Certificate}
 use Rattle.theory.specs.Certificate.Certificate.{optimal, cut, circuit}
-use Rattle.model_text.specs.Printed.{printed_line, printed_number}
+use Rattle.model_text.specs.Printed.{printed_fixed, printed_line}
+use Rattle.model_text.specs.declared.scale.Scale.{Scale}
 use Rattle.cert_text.specs.BadLine.{IsTextOf, IsBadLine}
 use Rattle.cert_text.specs.CertificateText.{texts_below, step_line}
 use Rattle.cert_check.specs.Verdict.{IsVerdict}
@@ -22,18 +23,19 @@ use Rattle.mono_top.specs.declared.status.Status.TheVariants.{Done, Rejected, No
 
 -- ---- the text
 
-abbrev pub weight_line : ℤ → List ℕ
-weight_line weight = printed_line (codes "piece") (printed_number weight ∷ [])
+-- a weight is a flow
+abbrev pub weight_line : Scale → ℤ → List ℕ
+weight_line s weight = printed_line (codes "piece") (printed_fixed s.flow weight ∷ [])
 
 abbrev pub steps_text : Entries → FlowPiece → ℕ → List ℕ
 steps_text m p count = texts_below count (λ i. step_line m (step p.walk i))
 
 -- the weight, and the steps in order
-abbrev pub piece_text : Entries → FlowPiece → List ℕ
-piece_text m p = weight_line p.weight ++ steps_text m p (length p.walk)
+abbrev pub piece_text : Scale → Entries → FlowPiece → List ℕ
+piece_text s m p = weight_line s p.weight ++ steps_text m p (length p.walk)
 
-abbrev pub pieces_text : Entries → List FlowPiece → List ℕ
-pieces_text m ps = count_line (codes "pieces") (length ps) ++ texts_below (length ps) (λ k. piece_text m (piece_at ps k))
+abbrev pub pieces_text : Scale → Entries → List FlowPiece → List ℕ
+pieces_text s m ps = count_line (codes "pieces") (length ps) ++ texts_below (length ps) (λ k. piece_text s m (piece_at ps k))
 
 -- every step is over an arc of the grounded network
 abbrev pub AreThere : Entries → List FlowPiece → Type 0
@@ -49,26 +51,26 @@ flow_of (cut side capacity) = None
 flow_of (circuit x walk span) = Some x
 
 -- the text of pieces of the flow
-abbrev pub IsSplit : Entries → List ℤ → List ℕ → Type 0
-IsSplit m x text = (ps : List FlowPiece) × ArePieces (grounded m) («at» x) ps × (text ≡ pieces_text m ps)
+abbrev pub IsSplit : Scale → Entries → List ℤ → List ℕ → Type 0
+IsSplit s m x text = (ps : List FlowPiece) × ArePieces (grounded m) («at» x) ps × (text ≡ pieces_text s m ps)
 
-abbrev pub ShowsFlow : Entries → Option (List ℤ) → Status → List ℕ → Type 0
-ShowsFlow m (Some x) status text = (status ≡ Done) × IsSplit m x text
-ShowsFlow m None status text = (status ≡ NoFlow) × (text ≡ no_flow_line)
+abbrev pub ShowsFlow : Scale → Entries → Option (List ℤ) → Status → List ℕ → Type 0
+ShowsFlow s m (Some x) status text = (status ≡ Done) × IsSplit s m x text
+ShowsFlow s m None status text = (status ≡ NoFlow) × (text ≡ no_flow_line)
 
 -- by the verdict on the certificate
-abbrev pub ShowsBy : Entries → Certificate → Judged → Status → List ℕ → Type 0
-ShowsBy m c Accepted status text = ShowsFlow m (flow_of c) status text
-ShowsBy m c verdict status text = (status ≡ Rejected) × (text ≡ verdict_line m c verdict)
+abbrev pub ShowsBy : Scale → Entries → Certificate → Judged → Status → List ℕ → Type 0
+ShowsBy s m c Accepted status text = ShowsFlow s m (flow_of c) status text
+ShowsBy s m c verdict status text = (status ≡ Rejected) × (text ≡ verdict_line s m c verdict)
 
-abbrev pub SplitsCertificate : Entries → Certificate → Status → List ℕ → Type 0
-SplitsCertificate m c status text = (verdict : Judged) × IsVerdict (grounded m) c verdict × ShowsBy m c verdict status text
+abbrev pub SplitsCertificate : Scale → Entries → Certificate → Status → List ℕ → Type 0
+SplitsCertificate s m c status text = (verdict : Judged) × IsVerdict (grounded m) c verdict × ShowsBy s m c verdict status text
 
-abbrev pub SplitsText : Entries → List ℕ → Status → List ℕ → Type 0
-SplitsText m bytes status text =
-    ((line : ℕ) × IsBadLine m bytes line × (status ≡ Rejected) × (text ≡ bad_text_line line))
-    ⊎ ((c : Certificate) × IsTextOf m bytes c × SplitsCertificate m c status text)
+abbrev pub SplitsText : Scale → Entries → List ℕ → Status → List ℕ → Type 0
+SplitsText s m bytes status text =
+    ((line : ℕ) × IsBadLine s m bytes line × (status ≡ Rejected) × (text ≡ bad_text_line line))
+    ⊎ ((c : Certificate) × IsTextOf s m bytes c × SplitsCertificate s m c status text)
 
 -- the text is that of a valid certificate in which there is no flow
-abbrev pub IsFlowlessText : Entries → List ℕ → Type 0
-IsFlowlessText m text = (valid : IsValidText m text) × (flow_of valid.certificate ≡ None)
+abbrev pub IsFlowlessText : Scale → Entries → List ℕ → Type 0
+IsFlowlessText s m text = (valid : IsValidText s m text) × (flow_of valid.certificate ≡ None)

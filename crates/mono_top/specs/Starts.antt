@@ -2,6 +2,7 @@
 use Rattle.std.specs.Prelude.{◌≡◌, ◌⊎◌, [], ◌∷◌, Option, Some, None}
 use Rattle.std.specs.Option.{ForSome}
 use Rattle.theory.specs.Grounded.{Entries}
+use Rattle.model_text.specs.declared.scale.Scale.{Scale}
 use Rattle.outside_io.specs.Files.{Files}
 use Rattle.outside_io.specs.Seen.{Seen, Outside, logged}
 use Rattle.mono_top.specs.Causes.{Asks}
@@ -29,7 +30,7 @@ StartsLater question m old new = new.log ≡ old.log
 
 -- a question is asked about a file that spells a model, which is not too big for it
 abbrev pub AsksOfModel : Files → Option Request → Type 0
-AsksOfModel files request = (question : Question) × (m : Entries) × Asks files question m request × (¬ IsTooBigFor question m)
+AsksOfModel files request = (question : Question) × (s : Scale) × (m : Entries) × Asks files question s m request × (¬ IsTooBigFor question m)
 
 -- Exactly these files were started. Where the first of them spells a model that is not too
 -- big, all of them were, but for a fault of the

@@ -1,7 +1,7 @@
 -- The exit code of each status.
 use Rattle.std.specs.Prelude.{ℕ}
 use Rattle.mono_top.specs.declared.status.Status.{Status}
-use Rattle.mono_top.specs.declared.status.Status.TheVariants.{Done, Cut, Circuit, Rejected, Usage, ModelRefused, Missing, ReadFault, WriteFault, NoMemory, TooLong, TooBig, UnknownArc, NoFlow, Unbounded, UnknownNode, TableRefused, ChangesRefused}
+use Rattle.mono_top.specs.declared.status.Status.TheVariants.{Done, Cut, Circuit, Rejected, Usage, ModelRefused, Missing, ReadFault, WriteFault, NoMemory, TooLong, TooBig, UnknownArc, NotConverted, NoFlow, Unbounded, UnknownNode, TableRefused, ChangesRefused}
 
 abbrev pub code_of : Status → ℕ
 code_of Done = 0
@@ -17,6 +17,7 @@ code_of NoMemory = 9
 code_of TooLong = 10
 code_of TooBig = 11
 code_of UnknownArc = 12
+code_of NotConverted = 14
 code_of NoFlow = 15
 code_of Unbounded = 16
 code_of UnknownNode = 17

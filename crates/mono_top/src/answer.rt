@@ -6,12 +6,13 @@ ghost use Rattle.mono_top.specs.Answer.{AnswersModel};
 ghost use Rattle.mono_top.specs.CountsReadings.{CountsReadings, ReadsChanges, ReadsCurves, ReadsWithin};
 ghost use Rattle.mono_top.specs.Due.{IsDue};
 ghost use Rattle.mono_top.specs.Replies.{Replies, RepliesWith};
-ghost use Rattle.mono_top.specs.Request.{IsApart, about_model, asked, files_of, question_by};
+ghost use Rattle.mono_top.specs.Request.{IsProper, about_model, asked, files_of, question_by};
 ghost use Rattle.mono_top.specs.Starts.{StartsFiles, StartsLater};
 
 use crate::between::{max_flow, max_tension};
 use crate::check::check;
 use crate::command::{Command, Task, command_of};
+use crate::convert::convert;
 use crate::feasible::feasible;
 use crate::fetch::{FetchedModel, fetch_model};
 use crate::lines;
@@ -82,7 +83,7 @@ fn of_model<S: Shelf, L: Ledger>(
     task: Task,
     steps: &mut Steps<L>,
 ) -> Result<Reply, AllocError>
-    requires apart { IsApart (question_by task) }
+    requires proper { IsProper (question_by task) }
     ensures replies { Replies (Some (about_model name.now (question_by task.entry)))
         (since (S.seen shelf.old) (S.seen shelf.new)) result }
     ensures readings { ReadsWithin name.now (question_by task.entry)
@@ -105,13 +106,13 @@ fn answer<S: Shelf, L: Ledger>(
     task: Task,
     steps: &mut Steps<L>,
 ) -> Result<Reply, AllocError>
-    requires apart { IsApart (question_by task) }
+    requires proper { IsProper (question_by task) }
     ensures answers { RepliesWith
         (AnswersModel (question_by task.entry) (since (S.seen shelf.old) (S.seen shelf.new))
-        model.now.entries) result }
+        model.now.scale model.now.entries) result }
     ensures readings { ReadsCurves (question_by task.entry) model.now.entries steps.old steps.new }
     ensures changes { ForSome (S.seen shelf.old).holds (λ files.
-        ReadsChanges (question_by task.entry) files model.now.entries steps.old steps.new) }
+        ReadsChanges (question_by task.entry) files model.now.scale model.now.entries steps.old steps.new) }
     ensures later { StartsLater (question_by task.entry) model.now.entries (S.seen shelf.old) (S.seen shelf.new) }
     ensures moves { Moves (S.seen shelf.old) (S.seen shelf.new) }
 {
@@ -125,5 +126,6 @@ fn answer<S: Shelf, L: Ledger>(
         Task::Tableau => Ok(show_tableau(alloc, model)?),
         Task::MaxFlow { from, to } => Ok(max_flow(alloc, model, from, to, steps)?),
         Task::MaxTension { from, to } => Ok(max_tension(alloc, model, from, to, steps)?),
+        Task::Convert { to } => Ok(convert(alloc, model, to)?),
     }
 }

@@ -30,7 +30,7 @@ pub(crate) fn max_flow<L: Ledger>(
     steps: &mut Steps<L>,
 ) -> Result<Reply, AllocError>
     requires apart { from.now ≢ to.now }
-    ensures answers { RepliesWith (Between FindsFlow from.now to.now model.now.entries) result }
+    ensures answers { RepliesWith (Between FindsFlow from.now to.now model.now.scale model.now.entries) result }
     ensures readings { ReadsCurves (greatest_flow from.now to.now) model.now.entries steps.old steps.new }
 {
     let Some(i) = model.node_of(from.as_bytes()) else {
@@ -59,7 +59,7 @@ fn flow_reply<L: Ledger>(
     requires from_there { ends.0 < length model.now.entries.nodes }
     requires to_there { ends.1 < length model.now.entries.nodes }
     requires apart { ends.0 ≢ ends.1 }
-    ensures answers { RepliesWith (FindsFlow model.now.entries (ends.0 + 1) (ends.1 + 1)) result }
+    ensures answers { RepliesWith (FindsFlow model.now.scale model.now.entries (ends.0 + 1) (ends.1 + 1)) result }
     ensures no_fewer { steps.old ≤ steps.new }
 {
     let (from, to) = (NodeId(ends.0 + 1), NodeId(ends.1 + 1));
@@ -91,7 +91,7 @@ pub(crate) fn max_tension<L: Ledger>(
     steps: &mut Steps<L>,
 ) -> Result<Reply, AllocError>
     requires apart { from.now ≢ to.now }
-    ensures answers { RepliesWith (Between FindsTension from.now to.now model.now.entries) result }
+    ensures answers { RepliesWith (Between FindsTension from.now to.now model.now.scale model.now.entries) result }
     ensures readings { ReadsCurves (greatest_tension from.now to.now) model.now.entries steps.old steps.new }
 {
     let Some(i) = model.node_of(from.as_bytes()) else {
@@ -113,7 +113,7 @@ fn tension_reply<L: Ledger>(
     requires from_there { ends.0 < length model.now.entries.nodes }
     requires to_there { ends.1 < length model.now.entries.nodes }
     requires apart { ends.0 ≢ ends.1 }
-    ensures answers { RepliesWith (FindsTension model.now.entries (ends.0 + 1) (ends.1 + 1)) result }
+    ensures answers { RepliesWith (FindsTension model.now.scale model.now.entries (ends.0 + 1) (ends.1 + 1)) result }
     ensures no_fewer { steps.old ≤ steps.new }
     ensures count { steps.new ≤ steps.old + net_bound (grounded model.now.entries) }
 {

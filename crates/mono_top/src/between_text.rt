@@ -3,14 +3,14 @@ ghost use Rattle.std.specs.Prelude.{◌≡◌, ℕ, ◌+◌, ◌<◌, ◌≤◌,
 ghost use Rattle.std.specs.List.{flat_map};
 ghost use Rattle.theory.specs.Circuit.{step as step_of};
 ghost use Rattle.theory.specs.Network.{«at»};
-ghost use Rattle.model_text.specs.Printed.{printed_number};
+ghost use Rattle.model_text.specs.Printed.{printed_fixed};
 ghost use Rattle.cert_text.specs.CertificateText.{texts_below, number_line, supply_lines, arc_lines, flow_line, side_line, step_line};
 ghost use Rattle.cert_text.specs.FeasibilityText.{tension_line};
 ghost use Rattle.mono_top.specs.Between.{FlowFits, TensionFits, flow_text, tension_text, side_lines, tension_lines};
 
 use crate::pieces::append_step;
 use cert_text::{append_arc_name, append_node_name};
-use model_text::{Model, append_line, append_number};
+use model_text::{Model, append_fixed, append_line};
 use net_incidence::Step;
 use outside_io::ByteText;
 use path_cut::{FlowFound, TensionFound};
@@ -22,12 +22,12 @@ pub(crate) fn print_flow(
     found: &FlowFound,
 ) -> Result<ByteText, AllocError>
     requires { FlowFits model.now.entries found.now }
-    ensures { IfOk result (λ text. text ≡ flow_text model.now.entries found.now) }
+    ensures { IfOk result (λ text. text ≡ flow_text model.now.scale model.now.entries found.now) }
 {
     let mut out = Vec::new(alloc);
     match found {
         FlowFound::Greatest { flow, flows, side } => {
-            append_head(&mut out, b"maxflow", i128::from(*flow))?;
+            append_head(&mut out, b"maxflow", i128::from(*flow), model.scale().flow)?;
             append_flows(&mut out, model, flows.as_slice())?;
             append_side(&mut out, model, side.as_slice())?;
         }
@@ -37,7 +37,7 @@ pub(crate) fn print_flow(
             append_walk(&mut out, model, walk.as_slice())?;
         }
         FlowFound::Refused { side, sum } => {
-            append_head(&mut out, b"maxflow no", *sum)?;
+            append_head(&mut out, b"maxflow no", *sum, model.scale().flow)?;
             append_side(&mut out, model, side.as_slice())?;
         }
     }
@@ -50,7 +50,7 @@ pub(crate) fn print_tension(
     found: &TensionFound,
 ) -> Result<ByteText, AllocError>
     requires { TensionFits model.now.entries found.now }
-    ensures { IfOk result (λ text. text ≡ tension_text model.now.entries found.now) }
+    ensures { IfOk result (λ text. text ≡ tension_text model.now.scale model.now.entries found.now) }
 {
     let mut out = Vec::new(alloc);
     match found {
@@ -59,7 +59,12 @@ pub(crate) fn print_tension(
             potentials,
             walk,
         } => {
-            append_head(&mut out, b"maxtension", i128::from(*tension))?;
+            append_head(
+                &mut out,
+                b"maxtension",
+                i128::from(*tension),
+                model.scale().tension,
+            )?;
             append_tensions(&mut out, model, potentials.as_slice())?;
             append_walk(&mut out, model, walk.as_slice())?;
         }
@@ -69,18 +74,24 @@ pub(crate) fn print_tension(
             append_side(&mut out, model, side.as_slice())?;
         }
         TensionFound::Refused { walk, sum } => {
-            append_head(&mut out, b"maxtension no", *sum)?;
+            append_head(&mut out, b"maxtension no", *sum, model.scale().tension)?;
             append_walk(&mut out, model, walk.as_slice())?;
         }
     }
     Ok(ByteText::of_vec(out))
 }
 
-fn append_head(out: &mut Vec<u8>, keyword: &[u8], number: i128) -> Result<(), AllocError>
-    ensures { OnOk result (out.new.items ≡ out.old.items ++ number_line keyword.now number) }
+fn append_head(
+    out: &mut Vec<u8>,
+    keyword: &[u8],
+    number: i128,
+    decimals: u8,
+) -> Result<(), AllocError>
+    requires { decimals ≤ 12 }
+    ensures { OnOk result (out.new.items ≡ out.old.items ++ number_line decimals keyword.now number) }
 {
     out.extend_from_slice(keyword)?;
-    append_number(out, number)?;
+    append_fixed(out, number, decimals)?;
     out.push(b'\n')?;
     Ok(())
 }
@@ -88,7 +99,7 @@ fn append_head(out: &mut Vec<u8>, keyword: &[u8], number: i128) -> Result<(), Al
 /// The flows of the model's nodes, and of its arcs. More flows may stand behind them.
 fn append_flows(out: &mut Vec<u8>, model: &Model, flows: &[i64]) -> Result<(), AllocError>
     requires { length model.now.entries.nodes + length model.now.entries.arcs ≤ length flows.now }
-    ensures { OnOk result (out.new.items ≡ out.old.items ++ supply_lines model.now.entries flows.now ++ arc_lines model.now.entries flows.now) }
+    ensures { OnOk result (out.new.items ≡ out.old.items ++ supply_lines model.now.scale model.now.entries flows.now ++ arc_lines model.now.scale model.now.entries flows.now) }
 {
     append_supplies(out, model, flows)?;
     append_arcs(out, model, flows)
@@ -96,7 +107,7 @@ fn append_flows(out: &mut Vec<u8>, model: &Model, flows: &[i64]) -> Result<(), A
 
 fn append_supplies(out: &mut Vec<u8>, model: &Model, flows: &[i64]) -> Result<(), AllocError>
     requires { length model.now.entries.nodes + length model.now.entries.arcs ≤ length flows.now }
-    ensures { OnOk result (out.new.items ≡ out.old.items ++ supply_lines model.now.entries flows.now) }
+    ensures { OnOk result (out.new.items ≡ out.old.items ++ supply_lines model.now.scale model.now.entries flows.now) }
 {
     for i in 0..model.nodes() {
         append_flow(out, model, flows, i)?;
@@ -106,7 +117,7 @@ fn append_supplies(out: &mut Vec<u8>, model: &Model, flows: &[i64]) -> Result<()
 
 fn append_arcs(out: &mut Vec<u8>, model: &Model, flows: &[i64]) -> Result<(), AllocError>
     requires { length model.now.entries.nodes + length model.now.entries.arcs ≤ length flows.now }
-    ensures { OnOk result (out.new.items ≡ out.old.items ++ arc_lines model.now.entries flows.now) }
+    ensures { OnOk result (out.new.items ≡ out.old.items ++ arc_lines model.now.scale model.now.entries flows.now) }
 {
     let nodes = model.nodes();
     for j in 0..model.arcs() {
@@ -118,25 +129,31 @@ fn append_arcs(out: &mut Vec<u8>, model: &Model, flows: &[i64]) -> Result<(), Al
 fn append_flow(out: &mut Vec<u8>, model: &Model, flows: &[i64], j: u32) -> Result<(), AllocError>
     requires there { j < length model.now.entries.nodes + length model.now.entries.arcs }
     requires one_each { length model.now.entries.nodes + length model.now.entries.arcs ≤ length flows.now }
-    ensures { OnOk result (out.new.items ≡ out.old.items ++ flow_line model.now.entries flows.now j) }
+    ensures { OnOk result (out.new.items ≡ out.old.items ++ flow_line model.now.scale model.now.entries flows.now j) }
 {
     append_arc_name(out, model, j)?;
-    append_number_at(out, flows, j)?;
+    append_number_at(out, flows, j, model.scale().flow)?;
     out.push(b'\n')?;
     Ok(())
 }
 
-/// A space and the number at a position.
-fn append_number_at(out: &mut Vec<u8>, numbers: &[i64], k: u32) -> Result<(), AllocError>
-    requires { k < length numbers.now }
-    ensures { OnOk result (out.new.items ≡ out.old.items ++ 32 ∷ printed_number («at» numbers.now k)) }
+/// A space and the number at a position, with so many decimals.
+fn append_number_at(
+    out: &mut Vec<u8>,
+    numbers: &[i64],
+    k: u32,
+    decimals: u8,
+) -> Result<(), AllocError>
+    requires there { k < length numbers.now }
+    requires few { decimals ≤ 12 }
+    ensures { OnOk result (out.new.items ≡ out.old.items ++ 32 ∷ printed_fixed decimals («at» numbers.now k)) }
 {
-    append_number(out, i128::from(numbers[k as usize]))
+    append_fixed(out, i128::from(numbers[k as usize]), decimals)
 }
 
 fn append_tensions(out: &mut Vec<u8>, model: &Model, u: &[i64]) -> Result<(), AllocError>
     requires { length u.now ≡ length model.now.entries.nodes + 1 }
-    ensures { OnOk result (out.new.items ≡ out.old.items ++ tension_lines model.now.entries u.now) }
+    ensures { OnOk result (out.new.items ≡ out.old.items ++ tension_lines model.now.scale model.now.entries u.now) }
 {
     for i in 0..model.nodes() {
         append_tension(out, model, u, i)?;
@@ -147,11 +164,11 @@ fn append_tensions(out: &mut Vec<u8>, model: &Model, u: &[i64]) -> Result<(), Al
 fn append_tension(out: &mut Vec<u8>, model: &Model, u: &[i64], i: u32) -> Result<(), AllocError>
     requires there { i < length model.now.entries.nodes }
     requires one_each { length u.now ≡ length model.now.entries.nodes + 1 }
-    ensures { OnOk result (out.new.items ≡ out.old.items ++ tension_line model.now.entries u.now i) }
+    ensures { OnOk result (out.new.items ≡ out.old.items ++ tension_line model.now.scale model.now.entries u.now i) }
 {
     out.extend_from_slice(b"node")?;
     append_node_name(out, model, i + 1)?;
-    append_number_at(out, u, i + 1)?;
+    append_number_at(out, u, i + 1, model.scale().tension)?;
     out.push(b'\n')?;
     Ok(())
 }

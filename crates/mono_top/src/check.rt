@@ -30,7 +30,7 @@ pub(crate) fn check<S: Shelf>(
     certificate: &str,
 ) -> Result<Reply, AllocError>
     ensures answers { RepliesWith
-        (ReadsThen Files.Second certificate.now (ChecksText model.now.entries)
+        (ReadsThen Files.Second certificate.now (ChecksText model.now.scale model.now.entries)
         (since (S.seen shelf.old) (S.seen shelf.new))) result }
     ensures log { (S.seen shelf.new).log
         ≡ logged (S.seen shelf.old).log (certificate.now ∷ []) }
@@ -45,7 +45,7 @@ pub(crate) fn check<S: Shelf>(
 /// Answers the text of the second file.
 fn answer_text(alloc: Global, model: &Model, text: &[u8]) -> Result<Reply, AllocError>
     requires { length text.now ≤ file_most }
-    ensures { RepliesWith (ChecksText model.now.entries text.now) result }
+    ensures { RepliesWith (ChecksText model.now.scale model.now.entries text.now) result }
 {
     match read_cert(alloc, model, text) {
         Ok(certificate) => Ok(answer_certificate(alloc, model, &certificate)?),
@@ -64,7 +64,7 @@ fn answer_certificate(
     certificate: &Certificate,
 ) -> Result<Reply, AllocError>
     requires { Fits (grounded model.now.entries) (shown certificate.now) }
-    ensures { RepliesWith (ChecksCertificate model.now.entries (shown certificate.now)) result }
+    ensures { RepliesWith (ChecksCertificate model.now.scale model.now.entries (shown certificate.now)) result }
 {
     let network = ground(alloc, model)?;
     let judged = verdict(&network, certificate);

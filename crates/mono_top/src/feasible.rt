@@ -21,7 +21,7 @@ pub(crate) fn feasible<L: Ledger>(
     model: &Model,
     steps: &mut Steps<L>,
 ) -> Result<Reply, AllocError>
-    ensures answers { RepliesWith (FindsFeasible model.now.entries) result }
+    ensures answers { RepliesWith (FindsFeasible model.now.scale model.now.entries) result }
     ensures readings { ReadsCurves feasible_question model.now.entries steps.old steps.new }
 {
     let network = ground(alloc, model)?;

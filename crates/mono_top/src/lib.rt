@@ -7,6 +7,7 @@ mod between;
 mod between_text;
 mod check;
 mod command;
+mod convert;
 mod feasible;
 mod fetch;
 mod lines;
@@ -35,6 +36,8 @@ pub use top::run;
 mod between_tests;
 #[cfg(test)]
 mod check_tests;
+#[cfg(test)]
+mod decimals_tests;
 #[cfg(test)]
 mod feasible_tests;
 #[cfg(test)]

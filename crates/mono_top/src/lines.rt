@@ -1,6 +1,6 @@
 // The lines that refuse.
 ghost use Rattle.std.specs.Prelude.{◌≡◌, IfOk};
-ghost use Rattle.mono_top.specs.Lines.{usage_line, unknown_arc_line, unknown_node_line, too_big_line, no_flow_line, missing_line, read_fault_line, too_long_line, word_of, fault_line, model_line, changes_line};
+ghost use Rattle.mono_top.specs.Lines.{usage_line, unknown_arc_line, unknown_node_line, too_big_line, not_converted_line, no_flow_line, missing_line, read_fault_line, too_long_line, word_of, fault_line, model_line, changes_line};
 
 use itoa::Buffer;
 use model_text::FaultWord;
@@ -36,6 +36,12 @@ pub(crate) fn too_big() -> &'static [u8]
     ensures { result.now ≡ too_big_line }
 {
     b"too big\n"
+}
+
+pub(crate) fn not_converted() -> &'static [u8]
+    ensures { result.now ≡ not_converted_line }
+{
+    b"not converted\n"
 }
 
 pub(crate) fn no_flow() -> &'static [u8]

@@ -28,7 +28,7 @@ use cert_check::{Judged, verdict};
 use cert_text::{CertFault, Certificate, append_arc_name, read_cert};
 use flow_pieces::{PieceFault, PieceList};
 use ground_net::{Grounded, ground};
-use model_text::{Model, append_number, append_word};
+use model_text::{Model, append_fixed, append_number, append_word};
 use net_incidence::Step;
 use outside_io::{ByteText, Shelf};
 use std::alloc::{AllocError, Global};
@@ -48,7 +48,7 @@ pub(crate) fn pieces<S: Shelf>(
 ) -> Result<Reply, AllocError>
     ensures answers { RepliesWith
         (AnswersModel (pieces_question certificate.now) (since (S.seen shelf.old) (S.seen shelf.new))
-        model.now.entries) result }
+        model.now.scale model.now.entries) result }
     ensures later { StartsLater (pieces_question certificate.now) model.now.entries
         (S.seen shelf.old) (S.seen shelf.new) }
     ensures moves { Moves (S.seen shelf.old) (S.seen shelf.new) }
@@ -73,7 +73,7 @@ fn read_and_split<S: Shelf>(
     certificate: &str,
 ) -> Result<Reply, AllocError>
     ensures answers { RepliesWith
-        (ReadsThen Files.Second certificate.now (SplitsText model.now.entries)
+        (ReadsThen Files.Second certificate.now (SplitsText model.now.scale model.now.entries)
         (since (S.seen shelf.old) (S.seen shelf.new))) result }
     ensures log { (S.seen shelf.new).log
         ≡ logged (S.seen shelf.old).log (certificate.now ∷ []) }
@@ -88,7 +88,7 @@ fn read_and_split<S: Shelf>(
 /// Answers the text of the second file.
 fn split_text(alloc: Global, model: &Model, text: &[u8]) -> Result<Reply, AllocError>
     requires { length text.now ≤ file_most }
-    ensures { RepliesWith (SplitsText model.now.entries text.now) result }
+    ensures { RepliesWith (SplitsText model.now.scale model.now.entries text.now) result }
 {
     match read_cert(alloc, model, text) {
         Ok(certificate) => Ok(split_certificate(alloc, model, &certificate)?),
@@ -107,7 +107,7 @@ fn split_certificate(
     certificate: &Certificate,
 ) -> Result<Reply, AllocError>
     requires { Fits (grounded model.now.entries) (shown certificate.now) }
-    ensures { RepliesWith (SplitsCertificate model.now.entries (shown certificate.now)) result }
+    ensures { RepliesWith (SplitsCertificate model.now.scale model.now.entries (shown certificate.now)) result }
 {
     let network = ground(alloc, model)?;
     match verdict(&network, certificate) {
@@ -127,7 +127,7 @@ fn split_valid(
 ) -> Result<Reply, AllocError>
     requires network { network.now.network ≡ grounded model.now.entries }
     requires valid { IsValid (grounded model.now.entries) (shown certificate.now) }
-    ensures { RepliesWith (ShowsFlow model.now.entries (flow_of (shown certificate.now))) result }
+    ensures { RepliesWith (ShowsFlow model.now.scale model.now.entries (flow_of (shown certificate.now))) result }
 {
     match flow_of(certificate) {
         Some(flow) => Ok(Reply {
@@ -158,7 +158,7 @@ fn split_flow(
     requires network { network.now.network ≡ grounded model.now.entries }
     requires numbers { AreNumbers (length (grounded model.now.entries).arcs) flow.now }
     requires conserved { IsConserved (grounded model.now.entries) («at» flow.now) }
-    ensures { IfOk result (IsSplit model.now.entries flow.now) }
+    ensures { IfOk result (IsSplit model.now.scale model.now.entries flow.now) }
 {
     match flow_pieces::pieces(alloc, network.net(), flow) {
         Ok(list) => Ok(print_pieces(alloc, model, &list)?),
@@ -169,7 +169,7 @@ fn split_flow(
 
 fn print_pieces(alloc: Global, model: &Model, list: &PieceList) -> Result<ByteText, AllocError>
     requires { AreThere model.now.entries list.now }
-    ensures { IfOk result (λ text. text ≡ pieces_text model.now.entries list.now) }
+    ensures { IfOk result (λ text. text ≡ pieces_text model.now.scale model.now.entries list.now) }
 {
     let mut out = Vec::new(alloc);
     append_count(&mut out, list)?;
@@ -189,7 +189,7 @@ fn append_count(out: &mut Vec<u8>, list: &PieceList) -> Result<(), AllocError>
 fn append_pieces(out: &mut Vec<u8>, model: &Model, list: &PieceList) -> Result<(), AllocError>
     requires { AreThere model.now.entries list.now }
     ensures { OnOk result (out.new.items
-        ≡ out.old.items ++ texts_below (length list.now) (λ k. piece_text model.now.entries (piece_at list.now k))) }
+        ≡ out.old.items ++ texts_below (length list.now) (λ k. piece_text model.now.scale model.now.entries (piece_at list.now k))) }
 {
     for k in 0..list.count() {
         append_piece(out, model, list, k)?;
@@ -206,9 +206,9 @@ fn append_piece(
 ) -> Result<(), AllocError>
     requires are_there { AreThere model.now.entries list.now }
     requires there { k < length list.now }
-    ensures { OnOk result (out.new.items ≡ out.old.items ++ piece_text model.now.entries (piece_at list.now k)) }
+    ensures { OnOk result (out.new.items ≡ out.old.items ++ piece_text model.now.scale model.now.entries (piece_at list.now k)) }
 {
-    append_weight(out, list.weight(k))?;
+    append_weight(out, model, list.weight(k))?;
     append_steps(out, model, list, k)
 }
 
@@ -229,11 +229,11 @@ fn append_steps(
     Ok(())
 }
 
-fn append_weight(out: &mut Vec<u8>, weight: i64) -> Result<(), AllocError>
-    ensures { OnOk result (out.new.items ≡ out.old.items ++ weight_line weight) }
+fn append_weight(out: &mut Vec<u8>, model: &Model, weight: i64) -> Result<(), AllocError>
+    ensures { OnOk result (out.new.items ≡ out.old.items ++ weight_line model.now.scale weight) }
 {
     out.extend_from_slice(b"piece")?;
-    append_number(out, weight)?;
+    append_fixed(out, i128::from(weight), model.scale().flow)?;
     out.push(b'\n')?;
     Ok(())
 }

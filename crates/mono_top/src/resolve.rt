@@ -24,10 +24,10 @@ use crate::lines::Place;
 use crate::reply::{Reply, Text};
 use crate::solve::status_of;
 use crate::trial::number_of;
-use crate::verdict_line::kind_word;
+use crate::verdict_line::{kind_word, number_decimals};
 use cert_text::{Certificate, print_cert};
 use ground_net::ground;
-use model_text::{Model, append_number, append_word};
+use model_text::{Model, append_fixed, append_number, append_word};
 use mono_curve::Steps;
 use outside_io::{ByteText, Shelf};
 use std::alloc::{AllocError, Global};
@@ -43,11 +43,11 @@ pub(crate) fn resolve<S: Shelf, L: Ledger>(
     steps: &mut Steps<L>,
 ) -> Result<Reply, AllocError>
     ensures answers { RepliesWith
-        (ReadsThen Files.Second changes.now (ResolvesText model.now.entries)
+        (ReadsThen Files.Second changes.now (ResolvesText model.now.scale model.now.entries)
         (since (S.seen shelf.old) (S.seen shelf.new))) result }
     ensures readings { ReadsCurves (resolve_question changes.now) model.now.entries steps.old steps.new }
     ensures changes { ForSome (S.seen shelf.old).holds
-        (λ files. ReadsChangesFile files changes.now model.now.entries steps.old steps.new) }
+        (λ files. ReadsChangesFile files changes.now model.now.scale model.now.entries steps.old steps.new) }
     ensures log { (S.seen shelf.new).log
         ≡ logged (S.seen shelf.old).log (changes.now ∷ []) }
     ensures moves { Moves (S.seen shelf.old) (S.seen shelf.new) }
@@ -66,8 +66,8 @@ fn resolve_text<L: Ledger>(
     steps: &mut Steps<L>,
 ) -> Result<Reply, AllocError>
     requires { length text.now ≤ file_most }
-    ensures answers { RepliesWith (ResolvesText model.now.entries text.now) result }
-    ensures readings { ReadsChangesText model.now.entries text.now steps.old steps.new }
+    ensures answers { RepliesWith (ResolvesText model.now.scale model.now.entries text.now) result }
+    ensures readings { ReadsChangesText model.now.scale model.now.entries text.now steps.old steps.new }
 {
     match read_changes(alloc, model, text) {
         Ok(changes) => Ok(follow(alloc, model, changes, steps)?),
@@ -85,7 +85,7 @@ fn follow<L: Ledger>(
 ) -> Result<Reply, AllocError>
     requires fit { All (IsChangeOf model.now.entries) changes }
     requires few { length changes ≤ changes_most }
-    ensures answers { RepliesWith (Resolves model.now.entries changes) result }
+    ensures answers { RepliesWith (Resolves model.now.scale model.now.entries changes) result }
     ensures no_fewer { steps.old ≤ steps.new }
     ensures bounded { steps.new ≤ steps.old + resolve_bound (length changes) model.now.entries }
 {
@@ -104,17 +104,17 @@ fn make_changes<L: Ledger>(
     requires network { warm.old.network ≡ grounded model.now.entries }
     requires fit { All (IsChangeOf model.now.entries) changes }
     requires few { length changes ≤ changes_most }
-    ensures answers { RepliesWith (Resolves model.now.entries changes) result }
+    ensures answers { RepliesWith (Resolves model.now.scale model.now.entries changes) result }
     ensures no_fewer { steps.old ≤ steps.new }
     ensures bounded { steps.new ≤ steps.old + 2 * length changes * net_bound (grounded model.now.entries) }
 {
     let mut text = Vec::new(alloc);
     let mut count: u32 = 0;
-    append_state(&mut text, count, warm.kept())?;
+    append_state(&mut text, model, count, warm.kept())?;
     while let Some(change) = changes.take() {
         count += 1;
         warm.change(change.arc, change.curve, steps)?;
-        append_state(&mut text, count, warm.kept())?;
+        append_state(&mut text, model, count, warm.kept())?;
     }
     conclude(alloc, model, text, warm.kept())
 }
@@ -129,7 +129,7 @@ fn conclude(
     requires { Fits (grounded model.now.entries) (shown certificate.now) }
     ensures status { IfOk result (λ reply. reply.status ≡ status_of (shown certificate.now)) }
     ensures text { IfOk result (λ reply. text_of reply.text
-        ≡ text.items ++ certificate_text model.now.entries (shown certificate.now)) }
+        ≡ text.items ++ certificate_text model.now.scale model.now.entries (shown certificate.now)) }
 {
     let last = print_cert(alloc, model, certificate)?;
     text.extend_from_slice(last.as_slice())?;
@@ -139,13 +139,22 @@ fn conclude(
     })
 }
 
-fn append_state(out: &mut Vec<u8>, count: u32, certificate: &Certificate) -> Result<(), AllocError>
-    ensures { OnOk result (out.new.items ≡ out.old.items ++ state_line count (shown certificate.now)) }
+fn append_state(
+    out: &mut Vec<u8>,
+    model: &Model,
+    count: u32,
+    certificate: &Certificate,
+) -> Result<(), AllocError>
+    ensures { OnOk result (out.new.items ≡ out.old.items ++ state_line model.now.scale count (shown certificate.now)) }
 {
     out.extend_from_slice(b"state")?;
     append_number(out, count)?;
     append_word(out, kind_word(certificate))?;
-    append_number(out, number_of(certificate))?;
+    append_fixed(
+        out,
+        number_of(certificate),
+        number_decimals(model.scale(), certificate),
+    )?;
     out.push(b'\n')?;
     Ok(())
 }

@@ -104,7 +104,7 @@ fn refused_changes(rt: HostRuntime) -> Result<(), Fail> {
         ),
         resolves(
             "a model that is none",
-            b"network 2\n",
+            b"network 3\n",
             b"changes 2\n",
             5,
             "model line 1: header\n",

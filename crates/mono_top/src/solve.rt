@@ -23,7 +23,7 @@ pub(crate) fn solve<L: Ledger>(
     model: &Model,
     steps: &mut Steps<L>,
 ) -> Result<Reply, AllocError>
-    ensures answers { RepliesWith (IsCertified model.now.entries) result }
+    ensures answers { RepliesWith (IsCertified model.now.scale model.now.entries) result }
     ensures readings { ReadsCurves solve_question model.now.entries steps.old steps.new }
 {
     let certificate = certify(alloc, model, steps)?;

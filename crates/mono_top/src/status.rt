@@ -23,6 +23,8 @@ pub enum Status {
     /// The network is too big for the command.
     TooBig,
     UnknownArc,
+    /// A number of the model isn't whole at the scale that was asked for, or too great.
+    NotConverted,
     /// The certificate is valid, and there is no flow in it.
     NoFlow,
     /// There are feasible flows, or potentials, and none is greatest.
@@ -53,6 +55,7 @@ impl Status {
             Status::TooLong => 10,
             Status::TooBig => 11,
             Status::UnknownArc => 12,
+            Status::NotConverted => 14,
             Status::NoFlow => 15,
             Status::Unbounded => 16,
             Status::UnknownNode => 17,

@@ -3,11 +3,12 @@ ghost use Rattle.std.specs.Prelude.{◌≡◌, ◌≢◌, ◌⊎◌, ℕ, ◌+�
 ghost use Rattle.std.specs.Option.{ForSome};
 ghost use Rattle.theory.specs.Grounded.{Entries};
 ghost use Rattle.model_text.specs.declared.fault.FaultWord.{FaultWord as Fault};
+ghost use Rattle.model_text.specs.declared.scale.Scale.{Scale};
 ghost use Rattle.outside_io.specs.Counts.{Rose, Counts};
 ghost use Rattle.outside_io.specs.Seen.{Moves, since};
 ghost use Rattle.warm_solve.specs.ChangesText.{Change};
 ghost use Rattle.mono_top.specs.Answer.{Answers};
-ghost use Rattle.mono_top.specs.Causes.{Asks, AsksChanges, AsksFaulty, AsksFaultyChanges, AsksToCheck, AsksInvalid, AsksNoFlow, AsksTooBig, AsksTrial, AsksUnbounded, AsksUnknownArc, AsksUnknownNode, AreNodes, ComesAlways, ComesBy, EndsTrial, IsAnswerable, IsUnhindered, GoesThrough};
+ghost use Rattle.mono_top.specs.Causes.{Asks, AsksChanges, AsksFaulty, AsksFaultyChanges, AsksToCheck, AsksInexact, AsksInvalid, AsksNoFlow, AsksTooBig, AsksTrial, AsksUnbounded, AsksUnknownArc, AsksUnknownNode, AreNodes, ComesAlways, ComesBy, EndsTrial, IsAnswerable, IsUnhindered, GoesThrough};
 ghost use Rattle.mono_top.specs.CountsReadings.{CountsReadings};
 ghost use Rattle.mono_top.specs.Headline.{Concludes, ConcludesCheck, ConcludesFeasible, ConcludesFlow, ConcludesTension, ConcludesResolve};
 ghost use Rattle.mono_top.specs.Ending.{WritesDue, WritesPart};
@@ -44,31 +45,31 @@ pub fn run<S: Shelf, K: Sink, L: Ledger>(
     ensures nothing { result ≡ Status.NoMemory → out.new ≡ out.old }
 
     // The certificate of a model: an optimum over all fractions, or why there is none.
-    ensures headline { IsUnhindered result → ForSome (S.seen shelf.old).holds (λ files. (m : Entries)
-        → Asks files solve m (asked words.now)
-        → Concludes m result (K.written out.old) (K.written out.new)) }
+    ensures headline { IsUnhindered result → ForSome (S.seen shelf.old).holds (λ files. (s : Scale) (m : Entries)
+        → Asks files solve s m (asked words.now)
+        → Concludes s m result (K.written out.old) (K.written out.new)) }
 
     // A text from anywhere is accepted exactly where it is that of a valid certificate.
     ensures checked { IsUnhindered result → ForSome (S.seen shelf.old).holds (λ files.
-        (m : Entries) (text : List ℕ) → AsksToCheck files m text (asked words.now)
-        → ConcludesCheck m text result) }
+        (s : Scale) (m : Entries) (text : List ℕ) → AsksToCheck files s m text (asked words.now)
+        → ConcludesCheck s m text result) }
 
     // Whether there are a flow and a potential that are feasible, over any fractions.
-    ensures feasible { IsUnhindered result → ForSome (S.seen shelf.old).holds (λ files. (m : Entries)
-        → Asks files feasible m (asked words.now) → ConcludesFeasible m result) }
+    ensures feasible { IsUnhindered result → ForSome (S.seen shelf.old).holds (λ files. (s : Scale) (m : Entries)
+        → Asks files feasible s m (asked words.now) → ConcludesFeasible m result) }
 
     // What a model comes to after each of its changes.
-    ensures resolve { IsUnhindered result → ForSome (S.seen shelf.old).holds (λ files. (m : Entries) (changes : List Change)
-        → AsksChanges files m changes (asked words.now)
-        → ConcludesResolve m changes result (K.written out.old) (K.written out.new)) }
+    ensures resolve { IsUnhindered result → ForSome (S.seen shelf.old).holds (λ files. (s : Scale) (m : Entries) (changes : List Change)
+        → AsksChanges files s m changes (asked words.now)
+        → ConcludesResolve s m changes result (K.written out.old) (K.written out.new)) }
 
     // A greatest flow and a greatest tension between two nodes, over all fractions, or why there is none.
-    ensures maxflow { IsUnhindered result → ForSome (S.seen shelf.old).holds (λ files. (m : Entries) (from to : List ℕ) (i k : ℕ)
-        → Asks files (greatest_flow from to) m (asked words.now) → AreNodes m from to i k
-        → ConcludesFlow m (i + 1) (k + 1) result (K.written out.old) (K.written out.new)) }
-    ensures maxtension { IsUnhindered result → ForSome (S.seen shelf.old).holds (λ files. (m : Entries) (from to : List ℕ) (i k : ℕ)
-        → Asks files (greatest_tension from to) m (asked words.now) → AreNodes m from to i k
-        → ConcludesTension m (i + 1) (k + 1) result (K.written out.old) (K.written out.new)) }
+    ensures maxflow { IsUnhindered result → ForSome (S.seen shelf.old).holds (λ files. (s : Scale) (m : Entries) (from to : List ℕ) (i k : ℕ)
+        → Asks files (greatest_flow from to) s m (asked words.now) → AreNodes m from to i k
+        → ConcludesFlow s m (i + 1) (k + 1) result (K.written out.old) (K.written out.new)) }
+    ensures maxtension { IsUnhindered result → ForSome (S.seen shelf.old).holds (λ files. (s : Scale) (m : Entries) (from to : List ℕ) (i k : ℕ)
+        → Asks files (greatest_tension from to) s m (asked words.now) → AreNodes m from to i k
+        → ConcludesTension s m (i + 1) (k + 1) result (K.written out.old) (K.written out.new)) }
 
     // The plan of a table: none undercuts it, over all fractions; or plants and shops that fall short, where there is none.
     ensures transport { IsUnhindered result → ForSome (S.seen shelf.old).holds (λ files. (t : Table)
@@ -104,6 +105,9 @@ pub fn run<S: Shelf, K: Sink, L: Ledger>(
         (since (S.seen shelf.old) (S.seen shelf.new)) result }
     ensures unknown_arc { ComesBy Status.UnknownArc
         (λ files. AsksUnknownArc files (asked words.now))
+        (since (S.seen shelf.old) (S.seen shelf.new)) result }
+    ensures not_converted { ComesBy Status.NotConverted
+        (λ files. AsksInexact files (asked words.now))
         (since (S.seen shelf.old) (S.seen shelf.new)) result }
     ensures unknown_node { ComesBy Status.UnknownNode
         (λ files. AsksUnknownNode files (asked words.now))

@@ -2,12 +2,13 @@
 ghost use Rattle.std.specs.Prelude.{◌≡◌, ◌++◌, ◌+◌, ◌<◌, ◌≤◌, ◌∷◌, [], length, codes, pos, IfOk, OnOk};
 ghost use Rattle.theory.specs.Grounded.{node_name, arc_name};
 ghost use Rattle.cert_text.specs.Shown.{shown};
-ghost use Rattle.model_text.specs.Printed.{spaced, printed_number};
-ghost use Rattle.mono_top.specs.VerdictLines.{kind_word, bad_text_line, verdict_line, NamesThere};
+ghost use Rattle.model_text.specs.Printed.{spaced, printed_fixed, printed_number};
+ghost use Rattle.model_text.specs.Scale.{IsScale};
+ghost use Rattle.mono_top.specs.VerdictLines.{kind_word, number_decimals, bad_text_line, verdict_line, NamesThere};
 
 use cert_check::Judged;
 use cert_text::{Certificate, append_arc_name, append_node_name};
-use model_text::{Model, append_number, append_word};
+use model_text::{Model, Scale, append_fixed, append_number, append_word};
 use net_incidence::{ArcId, NodeId};
 use outside_io::ByteText;
 use std::alloc::{AllocError, Global};
@@ -30,7 +31,7 @@ pub(crate) fn verdict_line(
 ) -> Result<ByteText, AllocError>
     requires { NamesThere model.now.entries judged }
     ensures { IfOk result (λ text.
-        text ≡ verdict_line model.now.entries (shown certificate.now) judged) }
+        text ≡ verdict_line model.now.scale model.now.entries (shown certificate.now) judged) }
 {
     let mut out = Vec::new(alloc);
     match judged {
@@ -48,7 +49,14 @@ pub(crate) fn verdict_line(
         Judged::NotCircuit(number) => append_count(&mut out, b"rejected not-circuit step", number)?,
         Judged::Endless(arc) => append_arc(&mut out, b"rejected endless", model, arc)?,
         Judged::WrongNumber { stated, right } => {
-            append_numbers(&mut out, b"rejected wrong-number stated", stated, right)?
+            let decimals = number_decimals(model.scale(), certificate);
+            append_numbers(
+                &mut out,
+                b"rejected wrong-number stated",
+                stated,
+                right,
+                decimals,
+            )?
         }
         Judged::NotNegative => out.extend_from_slice(b"rejected not-negative")?,
     }
@@ -72,6 +80,19 @@ pub(crate) fn kind_word(certificate: &Certificate) -> &'static [u8]
         Certificate::Optimal { .. } => b"optimal",
         Certificate::Cut { .. } => b"cut",
         Certificate::Circuit { .. } => b"circuit",
+    }
+}
+
+/// The decimals of the certificate's number: of a cost and a value, of a capacity, or of a span.
+pub(crate) fn number_decimals(scale: Scale, certificate: &Certificate) -> u8
+    requires { IsScale scale }
+    ensures is { result ≡ number_decimals scale (shown certificate.now) }
+    ensures most { result ≤ 12 }
+{
+    match certificate {
+        Certificate::Optimal { .. } => scale.cost(),
+        Certificate::Cut { .. } => scale.flow,
+        Certificate::Circuit { .. } => scale.tension,
     }
 }
 
@@ -117,13 +138,15 @@ fn append_numbers(
     keyword: &[u8],
     stated: i128,
     right: i128,
+    decimals: u8,
 ) -> Result<(), AllocError>
+    requires { decimals ≤ 12 }
     ensures { OnOk result (out.new.items
         ≡ out.old.items ++ keyword.now
-        ++ spaced (printed_number stated ∷ codes "right" ∷ printed_number right ∷ [])) }
+        ++ spaced (printed_fixed decimals stated ∷ codes "right" ∷ printed_fixed decimals right ∷ [])) }
 {
     out.extend_from_slice(keyword)?;
-    append_number(out, stated)?;
+    append_fixed(out, stated, decimals)?;
     append_word(out, b"right")?;
-    append_number(out, right)
+    append_fixed(out, right, decimals)
 }

@@ -19,7 +19,7 @@ returns-in_ok-answer-in-Model-clause-replies g c =
     (rw c.in-Model.is at c.in_ok-model.ensures.fetches)
     (answers_whole_call (g.S.Shelf.seen c.args.shelf.now) (g.S.Shelf.seen c.fetch_model.new.shelf) (g.S.Shelf.seen c.answer.new.shelf)
     c.args.name.now c.fetch_model.ensures.moves c.fetch_model.ensures.log
-    question c.in-Model.model.entries reply.status (text_of reply.text)
+    question c.in-Model.model.scale c.in-Model.model.entries reply.status (text_of reply.text)
     c.in_ok-answer-in-Model.ensures.answers)
 
 -- the model's file was read before the memory ran out, so it is held

@@ -4,4 +4,4 @@ use Rattle.cert_text.specs.FeasibilityText.{tension_line}
 use Rattle.mono_top.proofs.between_text.append_tensions.Given as goal
 
 abbrev pub invariant-loop-i : goal.invariant-loop-i
-invariant-loop-i l = (l.out.items ≡ l.initial.out.items ++ texts_below l.i (tension_line l.model.entries l.u))
+invariant-loop-i l = (l.out.items ≡ l.initial.out.items ++ texts_below l.i (tension_line l.model.scale l.model.entries l.u))

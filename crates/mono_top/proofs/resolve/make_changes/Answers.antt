@@ -9,6 +9,7 @@ use Rattle.theory.specs.Grounded.{Entries, grounded}
 use Rattle.theory.specs.Limits.{level_most}
 use Rattle.theory.specs.ReadingBound.{reading_bound}
 use Rattle.theory.proofs.GroundedLaw.{length-grounded_arcs}
+use Rattle.model_text.specs.declared.scale.Scale.{Scale}
 use Rattle.cert_text.specs.CertificateText.{certificate_text}
 use Rattle.cert_text.specs.Shown.{shown}
 use Rattle.warm_solve.specs.ChangesText.{Change}
@@ -25,48 +26,48 @@ use Rattle.mono_top.proofs.resolve.make_changes.Goals as goal
 
 -- ---- the lines
 
-begins : (m : Entries) (net : Network) (kept first : Certificate) (changes : List Change) (before items : List ℕ) → net ≡ grounded m → first ≡ kept
-    → IsValid net first → before ≡ [] → items ≡ before ++ state_line 0 first
-    → (status : Status) (rest : List ℕ) → Follows m 0 net kept changes status rest → Resolves m changes status (items ++ rest)
-begins m net kept first changes before items same is valid empty written status rest follows =
-    let line : items ≡ state_line 0 kept = written ∙ ap (λ (xs : List ℕ). xs ++ state_line 0 first) empty ∙ ap (state_line 0) is in
+begins : (s : Scale) (m : Entries) (net : Network) (kept first : Certificate) (changes : List Change) (before items : List ℕ) → net ≡ grounded m → first ≡ kept
+    → IsValid net first → before ≡ [] → items ≡ before ++ state_line s 0 first
+    → (status : Status) (rest : List ℕ) → Follows s m 0 net kept changes status rest → Resolves s m changes status (items ++ rest)
+begins s m net kept first changes before items same is valid empty written status rest follows =
+    let line : items ≡ state_line s 0 kept = written ∙ ap (λ (xs : List ℕ). xs ++ state_line s 0 first) empty ∙ ap (state_line s 0) is in
     let sound : IsValid (grounded m) kept = subst (λ (n : Network). IsValid n kept) same (subst (IsValid net) is valid) in
-    let after : Follows m 0 (grounded m) kept changes status rest = subst (λ (n : Network). Follows m 0 n kept changes status rest) same follows in
-    subst (λ (text : List ℕ). Resolves m changes status (text ++ rest)) (sym line) (with_line m 0 (grounded m) kept changes status rest sound after)
+    let after : Follows s m 0 (grounded m) kept changes status rest = subst (λ (n : Network). Follows s m 0 n kept changes status rest) same follows in
+    subst (λ (text : List ℕ). Resolves s m changes status (text ++ rest)) (sym line) (with_line s m 0 (grounded m) kept changes status rest sound after)
 
-goes_on : (m : Entries) (count : ℕ) (net other : Network) (before kept : Certificate) (all changes others : List Change) (change : Change) (items now : List ℕ)
-    → changes ≡ change ∷ others → other ≡ changed net change → IsValid (changed net change) kept → now ≡ items ++ state_line (count + 1) kept
-    → ((status : Status) (rest : List ℕ) → Follows m count net before changes status rest → Resolves m all status (items ++ rest))
-    → (status : Status) (rest : List ℕ) → Follows m (count + 1) other kept others status rest → Resolves m all status (now ++ rest)
-goes_on m count net other before kept all changes others change items now is net_is valid written so_far status rest follows =
-    let line = state_line (count + 1) kept in
-    let after : Follows m (count + 1) (changed net change) kept others status rest =
-    subst (λ (n : Network). Follows m (count + 1) n kept others status rest) net_is follows in
-    let further : States m (count + 1) (changed net change) others status (line ++ rest) =
-    with_line m (count + 1) (changed net change) kept others status rest valid after in
-    let from : Follows m count net before changes status (line ++ rest) =
-    subst (λ (cs : List Change). Follows m count net before cs status (line ++ rest)) (sym is) further in
-    subst (λ (text : List ℕ). Resolves m all status text) (sym (ap (λ (text : List ℕ). text ++ rest) written ∙ append_assoc items line rest))
+goes_on : (s : Scale) (m : Entries) (count : ℕ) (net other : Network) (before kept : Certificate) (all changes others : List Change) (change : Change) (items now : List ℕ)
+    → changes ≡ change ∷ others → other ≡ changed net change → IsValid (changed net change) kept → now ≡ items ++ state_line s (count + 1) kept
+    → ((status : Status) (rest : List ℕ) → Follows s m count net before changes status rest → Resolves s m all status (items ++ rest))
+    → (status : Status) (rest : List ℕ) → Follows s m (count + 1) other kept others status rest → Resolves s m all status (now ++ rest)
+goes_on s m count net other before kept all changes others change items now is net_is valid written so_far status rest follows =
+    let line = state_line s (count + 1) kept in
+    let after : Follows s m (count + 1) (changed net change) kept others status rest =
+    subst (λ (n : Network). Follows s m (count + 1) n kept others status rest) net_is follows in
+    let further : States s m (count + 1) (changed net change) others status (line ++ rest) =
+    with_line s m (count + 1) (changed net change) kept others status rest valid after in
+    let from : Follows s m count net before changes status (line ++ rest) =
+    subst (λ (cs : List Change). Follows s m count net before cs status (line ++ rest)) (sym is) further in
+    subst (λ (text : List ℕ). Resolves s m all status text) (sym (ap (λ (text : List ℕ). text ++ rest) written ∙ append_assoc items line rest))
     (so_far status (line ++ rest) from)
 
-ends : (m : Entries) (count : ℕ) (net : Network) (kept : Certificate) (all changes : List Change) (items last now : List ℕ) (status : Status)
-    → changes ≡ [] → status ≡ status_of kept → last ≡ certificate_text m kept → now ≡ items ++ last
-    → ((status : Status) (rest : List ℕ) → Follows m count net kept changes status rest → Resolves m all status (items ++ rest)) → Resolves m all status now
-ends m count net kept all changes items last now status none is last_is written so_far =
-    let after : Follows m count net kept changes status last =
-    subst (λ (cs : List Change). Follows m count net kept cs status last) (sym none) (is, last_is) in
-    subst (λ (text : List ℕ). Resolves m all status text) (sym written) (so_far status last after)
+ends : (s : Scale) (m : Entries) (count : ℕ) (net : Network) (kept : Certificate) (all changes : List Change) (items last now : List ℕ) (status : Status)
+    → changes ≡ [] → status ≡ status_of kept → last ≡ certificate_text s m kept → now ≡ items ++ last
+    → ((status : Status) (rest : List ℕ) → Follows s m count net kept changes status rest → Resolves s m all status (items ++ rest)) → Resolves s m all status now
+ends s m count net kept all changes items last now status none is last_is written so_far =
+    let after : Follows s m count net kept changes status last =
+    subst (λ (cs : List Change). Follows s m count net kept cs status last) (sym none) (is, last_is) in
+    subst (λ (text : List ℕ). Resolves s m all status text) (sym written) (so_far status last after)
 
 -- the reply, where there was memory for it
-concluded : (m : Entries) (count : ℕ) (net : Network) (kept last : Certificate) (all changes : List Change) (items : List ℕ) (result : Result Reply AllocError)
+concluded : (s : Scale) (m : Entries) (count : ℕ) (net : Network) (kept last : Certificate) (all changes : List Change) (items : List ℕ) (result : Result Reply AllocError)
     → changes ≡ [] → last ≡ kept → IfOk result (λ reply. reply.status ≡ status_of last)
-    → IfOk result (λ reply. text_of reply.text ≡ items ++ certificate_text m last)
-    → ((status : Status) (rest : List ℕ) → Follows m count net kept changes status rest → Resolves m all status (items ++ rest))
-    → RepliesWith (Resolves m all) result
-concluded m count net kept last all changes items (Err error) none same status text so_far = tt
-concluded m count net kept last all changes items (Ok reply) none same status text so_far =
-    ends m count net kept all changes items (certificate_text m last) (text_of reply.text) reply.status
-    none (status ∙ ap status_of same) (ap (certificate_text m) same) text so_far
+    → IfOk result (λ reply. text_of reply.text ≡ items ++ certificate_text s m last)
+    → ((status : Status) (rest : List ℕ) → Follows s m count net kept changes status rest → Resolves s m all status (items ++ rest))
+    → RepliesWith (Resolves s m all) result
+concluded s m count net kept last all changes items (Err error) none same status text so_far = tt
+concluded s m count net kept last all changes items (Ok reply) none same status text so_far =
+    ends s m count net kept all changes items (certificate_text s m last) (text_of reply.text) reply.status
+    none (status ∙ ap status_of same) (ap (certificate_text s m) same) text so_far
 
 -- ---- the readings
 
@@ -96,7 +97,7 @@ loop-change-init g c =
       made = omega arith;
       same_nodes = ap (λ (n : Network). n.nodes) same;
       same_arcs = ap (λ (n : Network). n.arcs) same;
-      so_far = begins m c.args.warm.now.network c.args.warm.now.kept (shown c.kept.result.now) c.args.changes c.new-text.result.items c.append_state.new.out.items
+      so_far = begins c.args.model.now.scale m c.args.warm.now.network c.args.warm.now.kept (shown c.kept.result.now) c.args.changes c.new-text.result.items c.append_state.new.out.items
           same c.kept.ensures.certificate c.kept.ensures.valid empty c.in_ok-append_state.ensures;
       no_fewer = omega arith;
       bounded = omega arith;
@@ -147,9 +148,9 @@ loop-change-preserved g c =
       made = omega (arith, its.made, ap length first);
       same_nodes = ap (λ (n : Network). n.nodes) c.in_ok-change.ensures.network ∙ its.same_nodes;
       same_arcs = ap (λ (n : Network). n.arcs) c.in_ok-change.ensures.network ∙ its.same_arcs;
-      so_far = goes_on m c.loop-change.count c.loop-change.warm.network c.change.new.self.network c.loop-change.warm.kept c.change.new.self.kept
+      so_far = goes_on c.args.model.now.scale m c.loop-change.count c.loop-change.warm.network c.change.new.self.network c.loop-change.warm.kept c.change.new.self.kept
           c.args.changes c.loop-change.changes c.take.new.self _ c.loop-change.text.items c.append_state-in-Some.new.out.items first c.in_ok-change.ensures.network
-          c.in_ok-change.ensures.valid (c.in_ok-append_state-2.ensures ∙ ap (λ (k : Certificate). c.loop-change.text.items ++ state_line (c.loop-change.count + 1) k) c.kept-in-Some.ensures.certificate)
+          c.in_ok-change.ensures.valid (c.in_ok-append_state-2.ensures ∙ ap (λ (k : Certificate). c.loop-change.text.items ++ state_line c.args.model.now.scale (c.loop-change.count + 1) k) c.kept-in-Some.ensures.certificate)
           its.so_far;
       no_fewer = omega (arith, its.no_fewer, c.change.ensures.no_fewer);
       bounded = change_bound c.args.steps.now c.loop-change.steps c.change.new.steps (length c.loop-change.changes) (length c.take.new.self) (net_bound (grounded m)) _ _
@@ -186,5 +187,5 @@ returns-clause-answers g c =
     let its = c.loop-change.invariant in
     let gone : c.take.result ≡ None = none_left c.take.result c.in_default.not-Some in
     let none : c.loop-change.changes ≡ [] = c.take.ensures.none.0 (subst IsNone (sym gone) refl) in
-    concluded m c.loop-change.count c.loop-change.warm.network c.loop-change.warm.kept (shown c.kept-2.result.now) c.args.changes c.loop-change.changes
+    concluded c.args.model.now.scale m c.loop-change.count c.loop-change.warm.network c.loop-change.warm.kept (shown c.kept-2.result.now) c.args.changes c.loop-change.changes
     c.loop-change.text.items c.conclude.result none c.kept-2.ensures.certificate c.conclude.ensures.status c.conclude.ensures.text its.so_far

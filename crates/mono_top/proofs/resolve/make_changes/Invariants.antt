@@ -18,8 +18,8 @@ invariant-loop-change g l = record {
   made : l.count + length l.changes ≡ length l.fn.changes;
   same_nodes : l.warm.network.nodes ≡ (grounded l.fn.model.entries).nodes;
   same_arcs : l.warm.network.arcs ≡ (grounded l.fn.model.entries).arcs;
-  so_far : (status : Status) (rest : List ℕ) → Follows l.fn.model.entries l.count l.warm.network l.warm.kept l.changes status rest
-      → Resolves l.fn.model.entries l.fn.changes status (l.text.items ++ rest);
+  so_far : (status : Status) (rest : List ℕ) → Follows l.fn.model.scale l.fn.model.entries l.count l.warm.network l.warm.kept l.changes status rest
+      → Resolves l.fn.model.scale l.fn.model.entries l.fn.changes status (l.text.items ++ rest);
   no_fewer : l.fn.steps ≤ l.steps;
   bounded : l.steps + 2 * length l.changes * net_bound (grounded l.fn.model.entries) ≤ l.fn.steps + 2 * length l.fn.changes * net_bound (grounded l.fn.model.entries);
 }
