@@ -1,7 +1,7 @@
 """Solves many small random models with monotropic and its peers and compares: kind, cost, `check`, and the status of `feasible`.
 
-A model on which something differs, or which isn't answered within the limit, is kept in bench/out/differences. Exit status 1 where
-something differs.
+Of some of them every command must say the same of the model and of its twin with decimals, but for the point. A model on which something
+differs, or which isn't answered within the limit, is kept in bench/out/differences. Exit status 1 where something differs.
 """
 
 import argparse
@@ -15,6 +15,7 @@ from draws import Draws
 from processes import run
 from programs import OUT, PROGRAM, build_peers, build_program, is_answer, peer_words, said_by_program
 from small import small
+from twins import Twins
 
 KEPT = os.path.join(OUT, "differences")
 BATCH = 200
@@ -28,6 +29,7 @@ def words_of():
     parser.add_argument("--nodes", type=int, default=8, help="nodes at most (8)")
     parser.add_argument("--arcs", type=int, default=14, help="arcs at most (14)")
     parser.add_argument("--limit", type=float, default=5, help="seconds that a run may take (5)")
+    parser.add_argument("--twins", type=int, default=4, help="compare the twin with decimals of one model in so many, of none with 0 (4)")
     parser.add_argument("--peers", default="simplex,glpk,kilter", help="which peers (simplex,glpk,kilter)")
     return parser.parse_args()
 
@@ -41,7 +43,7 @@ def heard_from(peer, paths):
     return lines
 
 
-def faults_of(path, options, heard):
+def faults_of(path, seed, options, heard):
     """What monotropic says of the model, how long it took, and what is wrong with it."""
     solved = run([PROGRAM, "solve", path], options.limit)
     said = said_by_program(solved)
@@ -56,6 +58,9 @@ def faults_of(path, options, heard):
     feasible = run([PROGRAM, "feasible", path], options.limit)
     if feasible.status is not None and feasible.status != STATUS.get(said.split(" ")[0]):
         faults.append(f"feasible ends with {feasible.status}")
+    if options.twins and seed % options.twins == 0 and is_answer(said):
+        with open(path) as file:
+            faults += Twins(path, file.read(), solved.text, Draws(seed * 7919 + 1), options.limit).faults()
     return said, solved.seconds, faults
 
 
@@ -82,7 +87,7 @@ def main():
             paths.append(path)
         by_peer = {peer: heard_from(peer, paths) for peer in peers}
         for place, (seed, path) in enumerate(zip(seeds, paths)):
-            said, seconds, faults = faults_of(path, options, {peer: by_peer[peer][place] for peer in peers})
+            said, seconds, faults = faults_of(path, seed, options, {peer: by_peer[peer][place] for peer in peers})
             kinds[said.split(" ")[0]] += 1
             slowest = max(slowest, (seconds, seed))
             if faults:

@@ -1,8 +1,9 @@
 """Runs the program over files and outputs that fail, and compares what it does with docs/FORMATS.md.
 
-First each call of the system fails in turn, and each reads and writes one byte at a time; then come real failures, which are the rows
-of the table `What the program does when ..` of that page: a row without a test here, and a test without a row, is wrong too. It runs in
-a folder of its own, which it removes, and in less than a minute. Exit status 1 where something differs.
+First each call of the system fails in turn, and each reads and writes one byte at a time; then models with decimals are solved, checked and
+converted; then come real failures, which are the rows of the table `What the program does when ..` of that page: a row without a test here,
+and a test without a row, is wrong too. It runs in a folder of its own, which it removes, and in less than a minute. Exit status 1 where
+something differs.
 """
 
 import argparse
@@ -15,7 +16,7 @@ import sys
 import time
 
 from programs import TOP, build_program
-from torn import CERTIFICATE, COMMANDS, MODEL, Sandbox, Tally, large_model, waited
+from torn import CERTIFICATE, COMMANDS, MODEL, POINTED_CERTIFICATE, Sandbox, Tally, large_model, waited
 
 FORMATS = os.path.join(TOP, "docs", "FORMATS.md")
 LIMITS = os.path.join(TOP, "crates", "theory", "specs", "Limits.antt")
@@ -79,8 +80,8 @@ def each_write_fails(sandbox, tally, words, whole, most):
 def each_call(sandbox, tally):
     for words, names in COMMANDS:
         right = sandbox.run(words)
-        # that there is no greatest tension is an answer too
-        tally.require(f"{words}: status {right.status}", right.status in (0, 16))
+        # that there is no greatest tension is an answer too, and that the model can't be had with these decimals
+        tally.require(f"{words}: status {right.status}", right.status in (0, 14, 16))
         lengths = [os.path.getsize(sandbox.path(name)) for name in names]
         for most in (1 << 20, 1):
             whole = sandbox.torn(words, most=most)
@@ -88,6 +89,35 @@ def each_call(sandbox, tally):
             each_read_fails(sandbox, tally, words, whole, lengths, min(most, 4096))
             each_write_fails(sandbox, tally, words, whole, most)
         each_start_fails(sandbox, tally, words, sandbox.torn(words))
+
+
+# Decimals: what is right is known from outside the program.
+
+
+CONVERTED = b"network 2\ndecimals 1 2\nnode s -inf 2.00 +inf\nnode t -5.0\narc a s t 0.0 2.00 4.0 5.00 10.0\n"
+# words after `convert`, the status, and what is written
+CONVERSIONS = (
+    (("model", "1", "2"), 0, CONVERTED),
+    (("pointed-model", "0", "0"), 14, b"not converted\n"),
+    (("pointed-model", "1", "1"), 14, b"not converted\n"),
+    (("model", "1"), 4, USAGE),
+    (("model", "1", "2", "3"), 4, USAGE),
+    (("model", "7", "0"), 4, USAGE),
+    (("model", "0", "01"), 4, USAGE),
+    (("model", "", "0"), 4, USAGE),
+    (("model", "0", "-1"), 4, USAGE),
+    (("nowhere", "0", "0"), 6, b"missing file 1\n"),
+    (("certificate", "0", "0"), 5, b"model line 1: header\n"),
+)
+
+
+def decimals(sandbox, tally):
+    tally.compare("solve with decimals", solved(sandbox, "pointed-model"), 0, POINTED_CERTIFICATE)
+    tally.compare("check with decimals", sandbox.run(("check", "pointed-model", "pointed-certificate")), 0, b"accepted optimal\n")
+    sandbox.put("short-certificate", POINTED_CERTIFICATE.replace(b"cost 26.500", b"cost 26.50"))
+    tally.compare("check with a digit less", sandbox.run(("check", "pointed-model", "short-certificate")), 3, b"rejected bad-text line 2\n")
+    for words, status, written in CONVERSIONS:
+        tally.compare(f"convert {' '.join(words)}", sandbox.run(("convert", *words)), status, written)
 
 
 # Real failures of files. Each function makes what its row tells, and gives the end of a run; where the row tells no text, the
@@ -329,6 +359,7 @@ def main():
     tally = Tally()
     with Sandbox() as sandbox:
         each_call(sandbox, tally)
+        decimals(sandbox, tally)
         real_failures(sandbox, tally)
     return tally.end()
 

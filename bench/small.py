@@ -4,25 +4,25 @@ from curves import DOWN, UP
 from model import Model
 
 # how large the numbers of a model are
-SCALES = (3, 20, 1000, 1000000)
+SIZES = (3, 20, 1000, 1000000)
 
 
-def rising(draws, count, scale):
-    """`count` numbers that rise strictly, within the scale."""
-    count = min(count, 2 * scale + 1)
+def rising(draws, count, size):
+    """`count` numbers that rise strictly, within the size."""
+    count = min(count, 2 * size + 1)
     chosen = set()
     while len(chosen) < count:
-        chosen.add(draws.between(-scale, scale))
+        chosen.add(draws.between(-size, size))
     return sorted(chosen)
 
 
-def curve(draws, scale):
+def curve(draws, size):
     """A point in one of four cases; else one to four pieces, each end infinite in one of four cases."""
     if draws.happens(1, 4):
-        return [draws.between(-scale, scale)]
-    pieces = min(draws.between(1, 4), 2 * scale)
-    points = rising(draws, pieces + 1, scale)
-    slopes = rising(draws, pieces, scale)
+        return [draws.between(-size, size)]
+    pieces = min(draws.between(1, 4), 2 * size)
+    points = rising(draws, pieces + 1, size)
+    slopes = rising(draws, pieces, size)
     if draws.happens(1, 4):
         points[0] = DOWN
     if draws.happens(1, 4):
@@ -33,46 +33,46 @@ def curve(draws, scale):
     return items
 
 
-def base(draws, scale):
-    return draws.between(-scale, scale) if draws.happens(1, 3) else 0
+def base(draws, size):
+    return draws.between(-size, size) if draws.happens(1, 3) else 0
 
 
 def small(draws, most_nodes, most_arcs):
-    scale = draws.one_of(SCALES)
+    size = draws.one_of(SIZES)
     model = Model()
     nodes = draws.between(0, most_nodes)
     # some models have supplies that are wanted and even out, as most models in use; else hardly one of many arcs has a plan
     is_even = draws.happens(1, 2)
     left = 0
     for place in range(nodes):
-        if is_even and place + 1 == nodes and abs(left) <= scale:
+        if is_even and place + 1 == nodes and abs(left) <= size:
             supply = [-left]
         elif draws.happens(1, 3):
             supply = [0]
         elif is_even or draws.happens(1, 2):
-            supply = [draws.between(-scale, scale)]
+            supply = [draws.between(-size, size)]
         else:
-            supply = curve(draws, scale)
+            supply = curve(draws, size)
         left += supply[0] if len(supply) == 1 else 0
-        model.node(f"n{place}", supply, base(draws, scale))
+        model.node(f"n{place}", supply, base(draws, size))
     # where arcs are wide, a plan is likelier
     is_wide = draws.happens(1, 2)
     for number in range(draws.between(0, most_arcs) if nodes > 1 else 0):
         begin = draws.below(nodes)
         end = (begin + 1 + draws.below(nodes - 1)) % nodes
-        items = curve(draws, scale)
+        items = curve(draws, size)
         if is_wide and len(items) > 1:
-            items = widened(draws, items, scale)
-        model.arc(f"a{number}", f"n{begin}", f"n{end}", items, base(draws, scale))
+            items = widened(draws, items, size)
+        model.arc(f"a{number}", f"n{begin}", f"n{end}", items, base(draws, size))
     return model
 
 
-def widened(draws, items, scale):
+def widened(draws, items, size):
     """The same slopes, from an end at or below 0 to one at or above it."""
     low = 0 if draws.happens(1, 2) else DOWN
-    points = rising(draws, len(items) // 2, scale)
+    points = rising(draws, len(items) // 2, size)
     points = [point for point in points if point > 0] if low == 0 else points
-    high = UP if draws.happens(1, 3) else scale + 1 if scale < 1000000 else scale
+    high = UP if draws.happens(1, 3) else size + 1 if size < 1000000 else size
     points = [point for point in points if high == UP or point < high]
     result = [low]
     slopes = items[1::2]

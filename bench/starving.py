@@ -19,17 +19,18 @@ NOT_STARTED = 127
 
 
 def refuse_each(sandbox, tally, words):
+    title = " ".join(words)
     whole = sandbox.torn(words)
     plain = sandbox.run(words)
-    tally.compare(f"{words[0]}, no request refused", whole, plain.status, plain.written)
+    tally.compare(f"{title}, no request refused", whole, plain.status, plain.written)
     spared = 0
     for at in range(1, whole.counts["memory"] + 1):
         ended = sandbox.torn(words, "memory", at, "12")
         is_answered = (ended.status, ended.written) == (whole.status, whole.written)
         is_starved = (ended.status, ended.written) == (9, b"")
-        tally.require(f"{words[0]}, request {at} refused: status {ended.status}, {len(ended.written)} bytes", is_answered or is_starved)
+        tally.require(f"{title}, request {at} refused: status {ended.status}, {len(ended.written)} bytes", is_answered or is_starved)
         spared += is_answered
-    print(f"{words[0]}: {whole.counts['memory']} requests, {spared} of them for more than is needed")
+    print(f"{title}: {whole.counts['memory']} requests, {spared} of them for more than is needed")
 
 
 def leave_less(sandbox, tally):

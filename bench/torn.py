@@ -13,6 +13,10 @@ MODEL = b"network 1\nnode s -inf 2 +inf\nnode t -5\narc a s t 0 2 4 5 10\n"
 CERTIFICATE = b"certificate 1 optimal\ncost 23\nvalue 23\nnode s 2 5\nnode t 7 -5\narc a 5\n"
 TABLE = b"transport 1\nplant p 5 2 9 4\nshop q 6\nlane a p q 9 1\n"
 CHANGES = b"changes 1\narc a 0 2 4 5 20\nnode t -2\n"
+# the same with decimals, at other prices
+POINTED_MODEL = b"network 2\ndecimals 1 2\nnode s -inf 2.5 +inf\nnode t -5\narc a s t 0 2.25 4 5 10\n"
+POINTED_CERTIFICATE = b"certificate 2 optimal\ncost 26.500\nvalue 26.500\nnode s 2.50 5.0\nnode t 7.50 -5.0\narc a 5.0\n"
+POINTED_CHANGES = b"changes 1\narc a 0 2.25 4 5 20.5\nnode t -2.5\n"
 # each command over files of the sandbox, with the files that it reads, in order
 COMMANDS = (
     (("solve", "model"), ("model",)),
@@ -25,7 +29,13 @@ COMMANDS = (
     (("maxtension", "model", "s", "t"), ("model",)),
     (("transport", "table"), ("table",)),
     (("resolve", "model", "changes"), ("model", "changes")),
+    (("convert", "model", "1", "2"), ("model",)),
     (("trial", "1"), ()),
+    (("solve", "pointed-model"), ("pointed-model",)),
+    (("check", "pointed-model", "pointed-certificate"), ("pointed-model", "pointed-certificate")),
+    (("resolve", "pointed-model", "pointed-changes"), ("pointed-model", "pointed-changes")),
+    (("convert", "pointed-model", "3", "2"), ("pointed-model",)),
+    (("convert", "pointed-model", "0", "0"), ("pointed-model",)),
 )
 
 
@@ -50,7 +60,7 @@ class Ended:
 
 
 class Sandbox:
-    """A folder with a copy of the program, a model, its certificate, a table and changes of the model; it is removed at the end."""
+    """A folder with a copy of the program, a model, its certificate and changes, another with decimals, and a table; it is removed at the end."""
 
     def __enter__(self):
         self.folder = tempfile.mkdtemp(prefix="monotropic-")
@@ -66,6 +76,9 @@ class Sandbox:
         self.put("certificate", CERTIFICATE)
         self.put("table", TABLE)
         self.put("changes", CHANGES)
+        self.put("pointed-model", POINTED_MODEL)
+        self.put("pointed-certificate", POINTED_CERTIFICATE)
+        self.put("pointed-changes", POINTED_CHANGES)
         return self
 
     def __exit__(self, *_):
